@@ -1,0 +1,193 @@
+-- Document 01's cases A to L as one table: the sheet's bytes, the input rows of one instant after the other, what each instant gives,
+-- and lists with what the scheduled instant answers. One test runs a row through the outcomes of the calls.
+use Prim.Native.Nat.{ℕ, _+_, _*_}
+use mathlib.Core.Bool.{Bool, true, false, _&&_, cond}
+use mathlib.Core.List.{List, [], _∷_, _++_, map}
+use lib.Dec.{eqb}
+use lib.IntN.{ℤ, pos, negℤ}
+use lib.ListN.{length, replicate}
+use Rattle.sheet.specs.Examples.{quarterBytes}
+use Rattle.sheet.specs.Sheets.{checkOf}
+use Rattle.sheet.specs.Memory.{StartCall, startCall, packedStarted}
+use Rattle.sheet.specs.Rows.{rowBytes}
+use Rattle.sheet.specs.declared.Datum.the-variants.{Number}
+use Rattle.sheet.specs.declared.Checked.{Checked}
+use Rattle.sheet.specs.declared.Checked.the-variants.{Refused, Passed}
+use Rattle.kernel.specs.Calls.{InstantCall, roundsCall, scheduledCall, packedRounds, packedScheduled}
+use Rattle.kernel.specs.declared.InRounds.{InRounds}
+
+-- what an instant in rounds gives: the rounds and the outputs, or a refusal's number and place
+pub data Expected : Type 0 where
+  accepts : (rounds : ℕ) → List ℤ → Expected
+  refuses : (number place : ℕ) → Expected
+
+-- an input row, and what the instant gives for it
+pub data Step : Type 0 where
+  step : List ℤ → Expected → Step
+
+-- a list, and the number that the scheduled instant returns for it at every step
+pub data Along : Type 0 where
+  along : (list : List ℕ) → (packed : ℕ) → Along
+
+pub record Case : Type 0 where
+  pub sheet : List ℕ
+  pub steps : List Step
+  pub lists : List Along
+
+-- The test of a row.
+unfoldable pub sameBytes : List ℕ → List ℕ → Bool
+sameBytes [] [] = true
+sameBytes [] (y ∷ ys) = false
+sameBytes (x ∷ xs) [] = false
+sameBytes (x ∷ xs) (y ∷ ys) = eqb x y && sameBytes xs ys
+
+unfoldable pub all : {A : Type 0} → (A → Bool) → List A → Bool
+all test [] = true
+all test (x ∷ xs) = test x && all test xs
+
+-- a Boolean has the bytes of the number 0 or 1
+abbrev row : List ℤ → List ℕ
+row zs = rowBytes (map Number zs)
+
+-- what a buffer holds before a call writes it
+abbrev pub rubbish : ℕ → List ℕ
+rubbish n = replicate n 170
+
+abbrev pub outputBytes : Checked → ℕ
+outputBytes (Refused why place) = 0
+outputBytes (Passed inputs wires outputs cells) = 4 * outputs
+
+abbrev pub memorySize : Checked → ℕ
+memorySize (Refused why place) = 0
+memorySize (Passed inputs wires outputs cells) = 5 * cells
+
+abbrev pub asExpected : Expected → InstantCall InRounds → (memory output : List ℕ) → Bool
+asExpected (accepts rounds zs) call memory output = eqb (packedRounds (call .answer)) rounds && sameBytes (call .output) (row zs)
+asExpected (refuses number place) call memory output =
+    eqb (packedRounds (call .answer)) (number * 65536 + place)
+    && (sameBytes (call .output) output && sameBytes (call .memory) memory)
+
+-- the scheduled instant answers as the row says and, where it is accepted, leaves what the instant in rounds leaves
+unfoldable pub agrees : (s memory input output : List ℕ) → InstantCall InRounds → Along → Bool
+agrees s memory input output call (along list packed) =
+    let other = scheduledCall s memory input output list in
+    eqb (packedScheduled (other .answer)) packed
+    && cond (eqb packed 0) (sameBytes (other .output) (call .output) && sameBytes (other .memory) (call .memory)) true
+
+unfoldable pub holdsFrom : (s memory : List ℕ) → List Along → List Step → Bool
+holdsFrom s memory lists [] = true
+holdsFrom s memory lists (step inputs expected ∷ steps) =
+    let output = rubbish (outputBytes (checkOf s)) in
+    let call = roundsCall s memory (row inputs) output in
+    asExpected expected call memory output
+    && (all (agrees s memory (row inputs) output call) lists && holdsFrom s (call .memory) lists steps)
+
+unfoldable pub holds : Case → Bool
+holds c =
+    let started = startCall (c .sheet) (rubbish (memorySize (checkOf (c .sheet)))) in
+    eqb (packedStarted (started .answer)) 0 && holdsFrom (c .sheet) (started .memory) (c .lists) (c .steps)
+
+-- How the rows are written.
+abbrev naturals : List ℕ → List ℤ
+naturals = map pos
+
+abbrev minus : ℕ → ℤ
+minus n = negℤ (pos n)
+
+-- natural inputs and outputs, in two rounds: one that finds every wire, and one that changes nothing
+abbrev on : List ℕ → List ℕ → Step
+on inputs outputs = step (naturals inputs) (accepts 2 (naturals outputs))
+
+-- one wire, wire 0, a number and the output
+abbrev single : (inputTypes expression : List ℕ) → List ℕ
+single inputTypes expression = length inputTypes ∷ (inputTypes ++ (1 ∷ 1 ∷ 1 ∷ 0 ∷ expression))
+
+-- wire 0 is its own schedule where it does not read itself
+abbrev alone : List ℕ → List Step → Case
+alone sheet steps = record { sheet = sheet; steps = steps; lists = along (0 ∷ []) 0 ∷ [] }
+
+-- ... and is refused 19 at 0 where it does
+abbrev looping : List ℕ → List Step → Case
+looping sheet steps = record { sheet = sheet; steps = steps; lists = along (0 ∷ []) (19 * 65536) ∷ [] }
+
+abbrev zero-number : List ℕ
+zero-number = 1 ∷ 0 ∷ 0 ∷ 0 ∷ 0 ∷ []
+
+abbrev one-number : List ℕ
+one-number = 1 ∷ 1 ∷ 0 ∷ 0 ∷ 0 ∷ []
+
+-- 10 fby 20
+abbrev ten-then-twenty : List ℕ
+ten-then-twenty = 17 ∷ 1 ∷ 10 ∷ 0 ∷ 0 ∷ 0 ∷ 1 ∷ 20 ∷ 0 ∷ 0 ∷ 0 ∷ []
+
+abbrev chainSheet : List ℕ
+chainSheet = 0 ∷ 3 ∷ 1 ∷ 1 ∷ 1 ∷ 3 ∷ 0 ∷ 1 ∷ 2 ∷ 2 ∷ 1 ∷ 2 ∷ 2 ∷ 1 ∷ 5 ∷ 0 ∷ 0 ∷ 0 ∷ []
+
+-- case L, with the kind of its three choices: x1, x2, y1, y2 and y
+abbrev pub crossedSheet : ℕ → List ℕ
+crossedSheet choice =
+    2 ∷ 0 ∷ 1 ∷ 5 ∷ 1 ∷ 1 ∷ 1 ∷ 1 ∷ 1 ∷ 1 ∷ 4
+    ∷ choice ∷ 3 ∷ 0 ∷ 3 ∷ 1 ∷ 2 ∷ 3
+    ∷ choice ∷ 3 ∷ 0 ∷ 2 ∷ 2 ∷ 3 ∷ 1
+    ∷ 8 ∷ 2 ∷ 0 ∷ 1 ∷ 1 ∷ 0 ∷ 0 ∷ 0
+    ∷ 5 ∷ 2 ∷ 1
+    ∷ choice ∷ 3 ∷ 0 ∷ 2 ∷ 3 ∷ 2 ∷ 2 ∷ []
+
+unfoldable pub table : List Case
+table =
+    -- A
+    record {
+      sheet = quarterBytes;
+      steps =
+          on (1 ∷ 0 ∷ []) (1 ∷ 0 ∷ [])
+          ∷ on (1 ∷ 0 ∷ []) (2 ∷ 1 ∷ [])
+          ∷ on (1 ∷ 1 ∷ []) (1 ∷ 2 ∷ [])
+          ∷ on (0 ∷ 0 ∷ []) (1 ∷ 1 ∷ [])
+          ∷ on (0 ∷ 1 ∷ []) (0 ∷ 1 ∷ [])
+          ∷ [];
+      lists = along (0 ∷ 1 ∷ []) 0 ∷ along (1 ∷ 0 ∷ []) 0 ∷ [];
+    }
+    -- B
+    ∷ looping (single [] (2 ∷ 0 ∷ [])) (step [] (refuses 20 0) ∷ [])
+    -- C
+    ∷ looping (single [] (12 ∷ 0 ∷ 0 ∷ 2 ∷ 0 ∷ zero-number)) (step [] (refuses 20 0) ∷ [])
+    -- D
+    ∷ looping (single [] (13 ∷ 0 ∷ 0 ∷ 2 ∷ 0 ∷ zero-number)) (on [] (0 ∷ []) ∷ [])
+    -- E
+    ∷ record {
+      sheet = chainSheet;
+      steps = step [] (accepts 4 (naturals (5 ∷ 5 ∷ 5 ∷ []))) ∷ [];
+      lists =
+          along (2 ∷ 1 ∷ 0 ∷ []) 0
+          ∷ along (0 ∷ 1 ∷ 2 ∷ []) (19 * 65536)
+          ∷ along (0 ∷ 1 ∷ 1 ∷ []) (18 * 65536 + 2)
+          ∷ along (2 ∷ 1 ∷ []) (17 * 65536)
+          ∷ [];
+    }
+    -- F
+    ∷ alone (single [] (17 ∷ 1 ∷ 5 ∷ 0 ∷ 0 ∷ 0 ∷ 8 ∷ 2 ∷ 0 ∷ one-number)) (on [] (5 ∷ []) ∷ on [] (6 ∷ []) ∷ on [] (7 ∷ []) ∷ [])
+    -- G
+    ∷ alone (single (0 ∷ []) (13 ∷ 3 ∷ 0 ∷ (ten-then-twenty ++ zero-number)))
+    (on (1 ∷ []) (10 ∷ []) ∷ on (0 ∷ []) (0 ∷ []) ∷ on (1 ∷ []) (20 ∷ []) ∷ [])
+    -- G, with p false at first
+    ∷ alone (single (0 ∷ []) (13 ∷ 3 ∷ 0 ∷ (ten-then-twenty ++ zero-number))) (on (0 ∷ []) (0 ∷ []) ∷ on (1 ∷ []) (10 ∷ []) ∷ [])
+    -- H
+    ∷ alone (single (0 ∷ 0 ∷ []) (14 ∷ 3 ∷ 1 ∷ 13 ∷ 3 ∷ 0 ∷ (ten-then-twenty ++ zero-number)))
+    (on (1 ∷ 0 ∷ []) (10 ∷ []) ∷ on (0 ∷ 1 ∷ []) (0 ∷ []) ∷ on (1 ∷ 0 ∷ []) (10 ∷ []) ∷ [])
+    -- I
+    ∷ alone (single (0 ∷ 0 ∷ []) (13 ∷ 3 ∷ 0 ∷ 14 ∷ 3 ∷ 1 ∷ (ten-then-twenty ++ zero-number)))
+    (on (1 ∷ 0 ∷ []) (10 ∷ []) ∷ on (0 ∷ 1 ∷ []) (0 ∷ []) ∷ on (1 ∷ 0 ∷ []) (20 ∷ []) ∷ [])
+    -- J
+    ∷ alone (single [] (8 ∷ 1 ∷ 255 ∷ 255 ∷ 255 ∷ 127 ∷ one-number)) (step [] (accepts 2 (minus 2147483648 ∷ [])) ∷ [])
+    -- K
+    ∷ alone (single [] (5 ∷ 1 ∷ 0 ∷ 0 ∷ 0 ∷ 128 ∷ [])) (step [] (accepts 2 (minus 2147483648 ∷ [])) ∷ [])
+    -- L; that no list passes is a theorem of Laws/Cases
+    ∷ record {
+      sheet = crossedSheet 13;
+      steps =
+          step (naturals (1 ∷ 5 ∷ [])) (accepts 6 (minus 6 ∷ []))
+          ∷ step (naturals (0 ∷ 5 ∷ [])) (accepts 6 (minus 4 ∷ []))
+          ∷ [];
+      lists = [];
+    }
+    ∷ []

@@ -1,0 +1,112 @@
+-- The value of an expression goes by the wires that it wiresRead, the inputs that it names and its own cells, and by nothing else:
+-- where these agree, so does the value; where the wires grow, so does the value. Both are one induction, over a relation on values.
+use mathlib.Core.Path.{_≡_, refl}
+use Prim.Native.Nat.{ℕ, suc, _+_, _≤_, _<_}
+use native.Mathlib.Omega.{arith}
+use mathlib.Core.Bool.{Bool, true, false, _||_, cond}
+use mathlib.Core.List.{List, _++_}
+use Rattle.kernel.specs.Values.{truth, whenKnown}
+use Rattle.kernel.specs.Order.{_⊑_, same, _⊑*_, valueAt}
+use Rattle.kernel.specs.Lists.{Every}
+use Rattle.kernel.specs.Operations.{applyUnary, applyBinary}
+use Rattle.sheet.specs.Expressions.{Expression, constant, wire, input, unary, binary, choose, reset, pre, fby}
+use Rattle.sheet.specs.Expressions.{Choice, conditional, present}
+use Rattle.sheet.specs.Expressions.{cellCount}
+use Rattle.sheet.specs.declared.Cell.{Cell}
+use Rattle.sheet.specs.declared.Cell.the-variants.{NotStarted, Started}
+use Rattle.kernel.specs.Reads.{wiresRead, inputsRead}
+use Rattle.kernel.specs.Instant.{Environment, inputAt, cellAt, knownOr, chosen, value}
+use Rattle.kernel.specs.Laws.Lists.{only, every, every-append}
+use Rattle.kernel.specs.Laws.Order.{whenKnown-grows}
+use Rattle.sheet.specs.declared.Datum.{Datum}
+use Rattle.kernel.specs.declared.Value.{Value}
+use Rattle.kernel.specs.declared.Value.the-variants.{Unknown, Known}
+
+-- two environments agree on these wires, up to R, on these inputs, and on the cells from number k on
+pub record Agree (R : Value → Value → Type 0) (s t : Environment) (ws is : List ℕ) (k cells : ℕ) : Type 0 where
+  pub onWires : Every (λ w. R (valueAt (s .wires) w) (valueAt (t .wires) w)) ws
+  pub onInputs : Every (λ i. inputAt (s .inputs) i ≡ inputAt (t .inputs) i) is
+  pub onCells : (j : ℕ) → k ≤ j → j < k + cells → cellAt (s .memory) j ≡ cellAt (t .memory) j
+
+-- a relation that strict functions respect
+pub record Respected (R : Value → Value → Type 0) : Type 0 where
+  pub reflexive : (v : Value) → R v v
+  pub strict : {u v : Value} {f g : Datum → Value} → R u v → ((d : Datum) → R (f d) (g d)) → R (whenKnown u f) (whenKnown v g)
+
+module _ (R : Value → Value → Type 0) (respected : Respected R) (s t : Environment) where
+  open Respected respected using (reflexive, strict)
+
+  halves : (ws vs is js : List ℕ) (k c d : ℕ) → Agree R s t (ws ++ vs) (is ++ js) k (c + d)
+      → Agree R s t ws is k c × Agree R s t vs js (k + c) d
+  halves ws vs is js k c d h =
+      let (ws₁, ws₂) = every-append ws vs (h .onWires) in
+      let (is₁, is₂) = every-append is js (h .onInputs) in (
+        record { onWires = ws₁; onInputs = is₁; onCells = λ j l m. h .onCells j l (omega arith) },
+        record { onWires = ws₂; onInputs = is₂; onCells = λ j l m. h .onCells j (omega arith) (omega arith) },
+      )
+
+  chosen-related : (o : Choice) (b : Bool) {u v x y : Value} → R u x → R v y → R (chosen o b u v) (chosen o b x y)
+  chosen-related conditional b p q = strict p (λ d. strict q (λ e. reflexive (Known (cond b d e))))
+  chosen-related present true p q = p
+  chosen-related present false p q = q
+
+  from-cell : (c : Cell) {u v : Value} → R u v → R (knownOr u c) (knownOr v c)
+  from-cell NotStarted p = p
+  from-cell (Started d) p = reflexive (Known d)
+
+  pub related : (e : Expression) (fresh : Bool) (k : ℕ) → Agree R s t (wiresRead e) (inputsRead e) k (cellCount e)
+      → R (value s fresh e k) (value t fresh e k)
+  unfolding value wiresRead inputsRead cellCount
+  related (constant d) fresh k h = reflexive (Known d)
+  related (wire w) fresh k h = only (h .onWires)
+  related (input i) fresh k h = rw (only (h .onInputs)) (reflexive (Known (inputAt (t .inputs) i)))
+  related (unary o a) fresh k h = strict (related a fresh k h) (λ x. reflexive (Known (applyUnary o x)))
+  related (binary o a b) fresh k h =
+      let (p, q) = halves (wiresRead a) (wiresRead b) (inputsRead a) (inputsRead b) k (cellCount a) (cellCount b) h in
+      strict (related a fresh k p) (λ x. strict (related b fresh (k + cellCount a) q) (λ y. reflexive (Known (applyBinary o x y))))
+  related (choose o c a b) fresh k h =
+      let (p, rest) = halves (wiresRead c) (wiresRead a ++ wiresRead b) (inputsRead c) (inputsRead a ++ inputsRead b) k (cellCount c)
+      (cellCount a + cellCount b) h in
+      let (q, r) = halves (wiresRead a) (wiresRead b) (inputsRead a) (inputsRead b) (k + cellCount c) (cellCount a) (cellCount b) rest in
+      strict (related c fresh k p) (λ t.
+      chosen-related o (truth t) (related a fresh (k + cellCount c) q) (related b fresh (k + cellCount c + cellCount a) r))
+  related (reset c a) fresh k h =
+      let (o, p) = halves (wiresRead c) (wiresRead a) (inputsRead c) (inputsRead a) k (cellCount c) (cellCount a) h in
+      strict (related c fresh k o) (λ x. related a (truth x || fresh) (k + cellCount c) p)
+  related (pre d a) fresh k h = rw (h .onCells k (omega arith) (omega arith)) (reflexive _)
+  related (fby u a b) fresh k h =
+      rw (h .onCells k (omega arith) (omega arith))
+      (from-cell (cond fresh NotStarted (cellAt (t .memory) k)) (related a fresh (suc k) left))
+    where
+      left : Agree R s t (wiresRead a) (inputsRead a) (suc k) (cellCount a)
+      left =
+          record { onWires = h .onWires; onInputs = h .onInputs; onCells = λ j l m. h .onCells j (omega arith) (omega arith) }
+
+whenKnown-same : {u v : Value} {f g : Datum → Value} → u ≡ v → ((d : Datum) → f d ≡ g d) → whenKnown u f ≡ whenKnown v g
+whenKnown-same {v = v} {f = f} {g = g} e h = rw e (at v)
+  where
+    at : (v : Value) → whenKnown v f ≡ whenKnown v g
+    at Unknown = refl
+    at (Known d) = h d
+
+pub order-respected : Respected _⊑_
+order-respected = record { reflexive = λ v. same; strict = whenKnown-grows }
+
+pub equality-respected : Respected _≡_
+equality-respected = record { reflexive = λ v. refl; strict = whenKnown-same }
+
+-- depends on nothing else
+pub value-depends : (s t : Environment) (e : Expression) (fresh : Bool) (k : ℕ)
+    → Agree _≡_ s t (wiresRead e) (inputsRead e) k (cellCount e) → value s fresh e k ≡ value t fresh e k
+value-depends = related _≡_ equality-respected
+
+-- grows with the wires
+pub value-grows : (s t : Environment) → s .inputs ≡ t .inputs → s .memory ≡ t .memory → s .wires ⊑* t .wires
+    → (e : Expression) (fresh : Bool) (k : ℕ) → value s fresh e k ⊑ value t fresh e k
+value-grows s t i m h e fresh k =
+    related _⊑_ order-respected s t e fresh k
+    (record {
+      onWires = every (λ w. valueAt (s .wires) w ⊑ valueAt (t .wires) w) (h .at) (wiresRead e);
+      onInputs = every (λ j. inputAt (s .inputs) j ≡ inputAt (t .inputs) j) (λ j. rw i) (inputsRead e);
+      onCells = λ j l u. rw m;
+    })

@@ -1,0 +1,83 @@
+-- What is stored is valid: what an expression stores where every wire has a value of its type, and what it keeps.
+use Prim.Native.Nat.{ℕ, suc, _+_}
+use mathlib.Core.Path.{subst, sym}
+use mathlib.Core.Bool.{Bool, true, false, _||_, cond}
+use mathlib.Core.List.{List, [], _∷_, _++_}
+use lib.ListN.{length, take, drop}
+use lib.Seq.{drop-cons}
+use Rattle.sheet.specs.Data.{ValueType, boolean, IsOf}
+use Rattle.sheet.specs.Expressions.{Expression, constant, wire, input, unary, binary, choose, reset, pre, fby}
+use Rattle.sheet.specs.Expressions.{CellForm, cellForms, cellCount}
+use Rattle.sheet.specs.Typing.{done, _then_, unaryType, operandType, HasType, ValidCells, ValidRow}
+use Rattle.sheet.specs.Laws.Readings.{forms-length}
+use Rattle.sheet.specs.Laws.Typing.{own-type}
+use Rattle.sheet.specs.Laws.Memory.{pairwise-append, start-valid}
+use Rattle.sheet.specs.declared.Cell.{Cell}
+use Rattle.sheet.specs.declared.Cell.the-variants.{NotStarted}
+use Rattle.kernel.specs.Values.{isTrue, datumIn, Has, has}
+use Rattle.kernel.specs.Instant.{Environment, runs, value, kept, stored}
+use Rattle.kernel.specs.Laws.Typing.{OnWires, ValidFrom, parts, has-inherited, value-typed}
+use Rattle.kernel.specs.declared.Value.{Value}
+
+-- the part of a valid memory
+slice-valid : (memory : List Cell) (fs : List CellForm) (k : ℕ) → ValidFrom memory fs k
+    → ValidCells fs (take (length fs) (drop k memory))
+unfolding ValidFrom
+slice-valid memory [] k h = done
+slice-valid memory (f ∷ fs) k h = rw (drop-cons memory k NotStarted (h .0)) (h .1 then slice-valid memory fs (suc k) (h .2))
+
+pub datum-type : {t : ValueType} {v : Value} → Has t v → IsOf t (datumIn v)
+datum-type (has e) = e
+
+picked : (b : Bool) {fs : List CellForm} {cs ds : List Cell} → ValidCells fs cs → ValidCells fs ds → ValidCells fs (cond b cs ds)
+picked true p q = p
+picked false p q = q
+
+module _ (inputTypes wireTypes : List ValueType) (now : Environment)
+    (onInputs : ValidRow inputTypes (now .inputs)) (onWires : OnWires Has wireTypes (now .wires)) where
+  has-value : (t : ValueType) (e : Expression) (fresh : Bool) (k : ℕ)
+      → HasType inputTypes wireTypes t e → ValidFrom (now .memory) (cellForms e) k → Has t (value now fresh e k)
+  has-value = value-typed Has has-inherited inputTypes wireTypes now onInputs onWires
+
+  kept-valid : (t : ValueType) (e : Expression) (fresh : Bool) (k : ℕ)
+      → HasType inputTypes wireTypes t e → ValidFrom (now .memory) (cellForms e) k
+      → ValidCells (cellForms e) (kept now fresh e k)
+  unfolding kept
+  kept-valid t e true k h m = start-valid inputTypes wireTypes t e h
+  kept-valid t e false k h m = rw (forms-length e) at (slice-valid (now .memory) (cellForms e) k m)
+
+  pub stored-valid : (t : ValueType) (e : Expression) (fresh : Bool) (k : ℕ)
+      → HasType inputTypes wireTypes t e → ValidFrom (now .memory) (cellForms e) k
+      → ValidCells (cellForms e) (stored now fresh e k)
+  unfolding stored HasType cellForms ValidFrom
+  stored-valid t (constant d) fresh k h m = done
+  stored-valid t (wire w) fresh k h m = done
+  stored-valid t (input i) fresh k h m = done
+  stored-valid t (unary o a) fresh k h m = stored-valid (unaryType o) a fresh k (h .1) m
+  stored-valid t (binary o a b) fresh k h m =
+      let (m₁, m₂) = parts (now .memory) a (cellForms b) k m in
+      pairwise-append (stored-valid (operandType o) a fresh k (h .1) m₁)
+      (stored-valid (operandType o) b fresh (k + cellCount a) (h .2) m₂)
+  stored-valid t (choose o c a b) fresh k h m =
+      let (m₁, m₂₃) = parts (now .memory) c (cellForms a ++ cellForms b) k m in
+      let (m₂, m₃) = parts (now .memory) a (cellForms b) (k + cellCount c) m₂₃ in
+      let condition = isTrue (value now fresh c k) in
+      pairwise-append (stored-valid boolean c fresh k (h .0) m₁)
+      (pairwise-append
+      (picked (runs o condition true) (stored-valid t a fresh (k + cellCount c) (h .1) m₂)
+      (kept-valid t a fresh (k + cellCount c) (h .1) m₂))
+      (picked (runs o condition false) (stored-valid t b fresh (k + cellCount c + cellCount a) (h .2) m₃)
+      (kept-valid t b fresh (k + cellCount c + cellCount a) (h .2) m₃)))
+  stored-valid t (reset c a) fresh k h m =
+      let (m₁, m₂) = parts (now .memory) c (cellForms a) k m in
+      pairwise-append (stored-valid boolean c fresh k (h .0) m₁)
+      (stored-valid t a (isTrue (value now fresh c k) || fresh) (k + cellCount c) (h .1) m₂)
+  stored-valid t (pre d a) fresh k h m =
+      let held = datum-type (has-value t a fresh (suc k) (h .1) (m .2)) in
+      subst (λ u. IsOf u (datumIn (value now fresh a (suc k)))) (sym (own-type t d (h .0))) held
+      then stored-valid t a fresh (suc k) (h .1) (m .2)
+  stored-valid t (fby u a b) fresh k h m =
+      let (m₁, m₂) = parts (now .memory) a (cellForms b) (suc k) (m .2) in
+      let held = datum-type (has-value t b fresh (suc k + cellCount a) (h .2) m₂) in
+      subst (λ x. IsOf x (datumIn (value now fresh b (suc k + cellCount a)))) (sym (h .0)) held
+      then pairwise-append (stored-valid t a fresh (suc k) (h .1) m₁) (stored-valid t b fresh (suc k + cellCount a) (h .2) m₂)

@@ -1,0 +1,13 @@
+pub mod Values
+pub mod Order
+pub mod Equality
+pub mod Lists
+pub mod Operations
+pub mod Reads
+pub mod Instant
+pub mod Systems
+pub mod Instants
+pub mod Schedules
+pub mod Calls
+pub mod Cases
+pub mod Laws

@@ -1,0 +1,52 @@
+-- Two sheets with what their bytes say: document 01's quarter sheet, and one in which every kind occurs.
+use Prim.Native.Nat.{ℕ}
+use mathlib.Core.Bool.{true, false}
+use mathlib.Core.List.{List, [], _∷_}
+use lib.IntN.{pos}
+use Rattle.sheet.specs.Data.{boolean, number}
+use Rattle.sheet.specs.Expressions.{Expression, constant, wire, input, unary, binary, choose, reset, pre, fby}
+use Rattle.sheet.specs.Expressions.{negation, negative, conditional, present}
+use Rattle.sheet.specs.Expressions.{conjunction, disjunction, sum, difference, lessThan, equality}
+use Rattle.sheet.specs.Sheets.{Sheet}
+use Rattle.sheet.specs.declared.Datum.the-variants.{Boolean, Number}
+
+abbrev natural : ℕ → Expression
+natural n = constant (Number (pos n))
+
+abbrev pub quarterBytes : List ℕ
+quarterBytes =
+    2 ∷ 0 ∷ 0 ∷ 2 ∷ 1 ∷ 1 ∷ 2 ∷ 0 ∷ 1
+    ∷ 14 ∷ 3 ∷ 1 ∷ 8 ∷ 16 ∷ 0 ∷ 0 ∷ 0 ∷ 0 ∷ 2 ∷ 0 ∷ 12 ∷ 3 ∷ 0 ∷ 1 ∷ 1 ∷ 0 ∷ 0 ∷ 0 ∷ 1 ∷ 0 ∷ 0 ∷ 0 ∷ 0
+    ∷ 16 ∷ 0 ∷ 0 ∷ 0 ∷ 0 ∷ 2 ∷ 0 ∷ []
+
+abbrev pub quarterSheet : Sheet
+quarterSheet = record {
+  inputTypes = boolean ∷ boolean ∷ [];
+  wireTypes = number ∷ number ∷ [];
+  outputs = 0 ∷ 1 ∷ [];
+  expressions =
+      reset (input 1) (binary sum (pre (Number (pos 0)) (wire 0)) (choose conditional (input 0) (natural 1) (natural 0)))
+      ∷ pre (Number (pos 0)) (wire 0)
+      ∷ [];
+}
+
+abbrev pub everyKindBytes : List ℕ
+everyKindBytes =
+    1 ∷ 1 ∷ 2 ∷ 0 ∷ 1 ∷ 1 ∷ 0
+    ∷ 6 ∷ 4 ∷ 0 ∷ 1 ∷ 7 ∷ 10 ∷ 1 ∷ 1 ∷ 0 ∷ 0 ∷ 0 ∷ 5 ∷ 1 ∷ 2 ∷ 0 ∷ 0 ∷ 0 ∷ 11 ∷ 2 ∷ 1 ∷ 3 ∷ 0
+    ∷ 13 ∷ 15 ∷ 1 ∷ 2 ∷ 0 ∷ 17 ∷ 8 ∷ 2 ∷ 1 ∷ 3 ∷ 0 ∷ 9 ∷ 2 ∷ 1 ∷ 1 ∷ 3 ∷ 0 ∷ 0 ∷ 0
+    ∷ 14 ∷ 0 ∷ 0 ∷ 12 ∷ 2 ∷ 0 ∷ 16 ∷ 7 ∷ 0 ∷ 0 ∷ 0 ∷ 2 ∷ 1 ∷ 1 ∷ 4 ∷ 0 ∷ 0 ∷ 0 ∷ []
+
+abbrev pub everyKindSheet : Sheet
+everyKindSheet = record {
+  inputTypes = number ∷ [];
+  wireTypes = boolean ∷ number ∷ [];
+  outputs = 0 ∷ [];
+  expressions =
+      binary conjunction (unary negation (constant (Boolean true)))
+      (binary disjunction (binary lessThan (natural 1) (unary negative (natural 2))) (binary equality (wire 1) (input 0)))
+      ∷ choose present (pre (Boolean true) (wire 0))
+      (fby number (binary sum (wire 1) (input 0)) (binary difference (wire 1) (natural 3)))
+      (reset (constant (Boolean false)) (choose conditional (wire 0) (pre (Number (pos 7)) (wire 1)) (natural 4)))
+      ∷ [];
+}

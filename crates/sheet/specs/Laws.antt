@@ -1,0 +1,7 @@
+pub mod Lowest
+pub mod Outcomes
+pub mod Readings
+pub mod Headers
+pub mod Typing
+pub mod Memory
+pub mod Examples

@@ -1,0 +1,14 @@
+pub mod Data
+pub mod Outcomes
+pub mod Expressions
+pub mod Kinds
+pub mod Readings
+pub mod Headers
+pub mod Sheets
+pub mod Memory
+pub mod Rows
+pub mod Starts
+pub mod Scans
+pub mod Typing
+pub mod Examples
+pub mod Laws

@@ -1,0 +1,80 @@
+-- A sheet: what its bytes say, or the first refusal 1 to 11 with its place; and what the check answers.
+use Prim.Native.Nat.{ℕ, _+_, _-_}
+use mathlib.Core.Bool.{cond, true, false}
+use mathlib.Core.List.{List, [], _∷_, _++_, map}
+use lib.ListN.{length, take, drop}
+use lib.Dec.{ltb, eqb}
+use Rattle.sheet.specs.Data.{ValueType, typeOfByte}
+use Rattle.sheet.specs.Expressions.{Expression, CellForm, cellForms}
+use Rattle.sheet.specs.Outcomes.{Outcome, refusal, result, packedRefusal}
+use Rattle.sheet.specs.Readings.{Reading, refused, got, andThen, onRead, readEach, readExpression}
+use Rattle.sheet.specs.Headers.{sectionOf}
+use Rattle.sheet.specs.declared.Refusal.{Refusal}
+use Rattle.sheet.specs.declared.Refusal.the-variants.{SheetLength, TypeByte, OutputWire, LeftOver}
+use Rattle.sheet.specs.declared.Checked.{Checked}
+use Rattle.sheet.specs.declared.Checked.the-variants.{Refused, Passed}
+
+-- the types of inputs and wires, the wires that are outputs, and an expression for each wire
+pub record Sheet : Type 0 where
+  pub inputTypes : List ValueType
+  pub wireTypes : List ValueType
+  pub outputs : List ℕ
+  pub expressions : List Expression
+
+unfoldable pub formsOf : List Expression → List CellForm
+formsOf [] = []
+formsOf (e ∷ es) = cellForms e ++ formsOf es
+
+-- the cells of a sheet, in the order of their numbers
+abbrev pub sheetForms : Sheet → List CellForm
+sheetForms sheet = formsOf (sheet .expressions)
+
+-- the n bytes before a place
+abbrev pub before : List ℕ → ℕ → ℕ → List ℕ
+before s at n = take n (drop (at - n) s)
+
+-- the rest of a sheet from `at` on: the expressions, one for each wire at level 1 of 16, and nothing behind them
+abbrev pub expressionsFrom : (s inputs wires outputs : List ℕ) → ℕ → Reading Sheet
+expressionsFrom s inputs wires outputs at =
+    andThen (readEach (readExpression inputs wires s 16) wires at 0) (λ es end count.
+    cond (ltb end (length s)) (refused LeftOver end)
+    (got
+    (record { inputTypes = map typeOfByte inputs; wireTypes = map typeOfByte wires; outputs = outputs; expressions = es })
+    end count))
+
+-- the rest from the outputs on, each of them a wire and above the one before
+unfoldable pub outputsFrom : (s inputs wires : List ℕ) → ℕ → Reading Sheet
+outputsFrom s inputs wires at =
+    onRead (sectionOf s at 1 17 (length wires) true OutputWire) refused (λ n k. expressionsFrom s inputs wires (before s n k) n)
+
+-- the rest from the wires on, each with its type
+unfoldable pub wiresFrom : (s inputs : List ℕ) → ℕ → Reading Sheet
+wiresFrom s inputs at = onRead (sectionOf s at 1 65 2 false TypeByte) refused (λ n k. outputsFrom s inputs (before s n k) n)
+
+-- the whole, from the inputs with their types on
+unfoldable pub readSheet : List ℕ → Reading Sheet
+readSheet s =
+    cond (eqb (length s) 0) (refused SheetLength 0)
+    (cond (ltb 4096 (length s)) (refused SheetLength 0)
+    (onRead (sectionOf s 0 0 17 2 false TypeByte) refused (λ n k. wiresFrom s (before s n k) n)))
+
+abbrev outcomeOf : Reading Sheet → Outcome Sheet
+outcomeOf (refused why place) = refusal why place
+outcomeOf (got sheet next count) = result sheet
+
+-- a sheet that passes the check, or the refusal
+unfoldable pub sheetOf : List ℕ → Outcome Sheet
+sheetOf s = outcomeOf (readSheet s)
+
+-- the check answers a reading's refusal, or the four counts
+abbrev pub checkedOf : Reading Sheet → Checked
+checkedOf (refused why place) = Refused why place
+checkedOf (got sheet next count) = Passed (length (sheet .inputTypes)) (length (sheet .wireTypes)) (length (sheet .outputs)) count
+
+abbrev pub checkOf : List ℕ → Checked
+checkOf s = checkedOf (readSheet s)
+
+-- the number that the C library returns: the cells
+abbrev pub packedChecked : Checked → ℕ
+packedChecked (Refused why place) = packedRefusal why place
+packedChecked (Passed inputs wires outputs cells) = cells

@@ -1,0 +1,44 @@
+// One cell of a memory, read and stored: 5 bytes, a mark and a value. Rests on `data` and on `numbers` for the value's word.
+use crate::Cell;
+use crate::data;
+ghost use mathlib.Core.Path.{_≡_};
+ghost use Prim.Native.Nat.{_+_, _*_, _≤_};
+ghost use mathlib.Core.List.{_∷_};
+ghost use lib.ListN.{length};
+ghost use lib.Seq.{sets};
+ghost use Rattle.numbers.specs.Words.{wordBytes};
+ghost use Rattle.sheet.specs.Data.{typeOfByte};
+ghost use Rattle.sheet.specs.Memory.{readCell, cellBytes};
+
+// The cell with number k, which holds data of the type.
+pub fn cell_at(memory: &[u8], k: usize, byte: u8) -> Cell
+    requires { ⌜ 5 * k + 5 ≤ length (now memory) ⌝ }
+    ensures { λ r. ⌜ r ≡ readCell (typeOfByte byte) (now (memory .entry)) k ⌝ }
+{
+    let at = 5 * k;
+    if memory[at] == 0 {
+        return Cell::NotStarted;
+    }
+    Cell::Started(data::datum_of(byte, numbers::word_at(memory, at + 1)))
+}
+
+// Stores the cell with number k, and changes nothing else.
+pub fn put_cell(memory: &mut [u8], k: usize, cell: Cell)
+    requires { ⌜ 5 * k + 5 ≤ length (now memory) ⌝ }
+    ensures { λ _. ⌜ now (memory .exit) ≡ sets (now (memory .entry)) (5 * k) (cellBytes cell) ⌝ }
+{
+    let at = 5 * k;
+    match cell {
+        Cell::NotStarted => put_bytes(memory, at, 0, 0),
+        Cell::Started(datum) => put_bytes(memory, at, 1, data::word_of(datum)),
+    }
+}
+
+// Stores a mark and behind it a value.
+fn put_bytes(memory: &mut [u8], at: usize, mark: u8, value: u32)
+    requires { ⌜ at + 5 ≤ length (now memory) ⌝ }
+    ensures { λ _. ⌜ now (memory .exit) ≡ sets (now (memory .entry)) at (mark ∷ wordBytes value) ⌝ }
+{
+    memory[at] = mark;
+    numbers::put_word(memory, at + 1, value);
+}

@@ -1,0 +1,123 @@
+-- What the bit operations of `Wires` do to the set: shift, or, and, the count of ones, the zeros below the lowest one.
+use Prim.Native.Nat.{ℕ, zero, suc, _+_, _-_, _*_, _/_, _%_, _^_, _<_}
+use mathlib.Core.Path.{_≡_, refl, sym, ap, ap₂, _∙_}
+use mathlib.Core.Bool.{Bool, true, false, cond, _||_}
+use native.Mathlib.Nat.{mod-lt, mod-eq-of-lt, mod-one, div-one, div-eq-of-lt, mul-mod-left, mul-div-cancel}
+use native.Mathlib.Nat.{pow-suc, zero-lt-suc, zero-div, one-mul}
+use native.Mathlib.Numerals.{one-add}
+use native.Mathlib.Omega.{arith}
+use lib.Dec.{eqb, eqb·suc-suc, eqb·zero-suc, eqb·suc-zero, lit<}
+use lib.Bits.{bitOr, bitAnd, or-shr, or-mod, and-mask}
+use lib.Count.{ones, ones-cat, ones-ones, trailingZeros, under, trailing-le}
+use lib.Pow.{pow-pos, pow-lt, shr-shr, mod-pow-add}
+use borrow.Author.Tests.{eq-eqb, ne-eqb}
+use Rattle.wires.specs.Sets.{member, tally, LowestMissing}
+
+-- one digit further up is one digit of the half
+half : (n k : ℕ) → n / 2 ^ suc k ≡ n / 2 / 2 ^ k
+half n k = rw (← one-add k, ← shr-shr n 1 k)
+
+-- Members of a union, and of the set of one wire.
+
+digit-or : (p q : ℕ) → p < 2 → q < 2 → eqb (bitOr p q) 1 ≡ (eqb p 1 || eqb q 1)
+digit-or zero q hp hq = refl
+digit-or (suc zero) zero hp hq = refl
+digit-or (suc zero) (suc zero) hp hq = refl
+digit-or (suc zero) (suc (suc q)) hp hq = absurd (omega arith)
+digit-or (suc (suc p)) q hp hq = absurd (omega arith)
+
+or-member : (a b k : ℕ) → member (bitOr a b) k ≡ (member a k || member b k)
+unfolding member
+or-member a b k =
+    ap (λ (x : ℕ). eqb (x % 2) 1) (or-shr a b k) ∙ ap (λ (x : ℕ). eqb x 1) (or-mod (a / 2 ^ k) (b / 2 ^ k) 1)
+    ∙ digit-or (a / 2 ^ k % 2) (b / 2 ^ k % 2) (omega arith) (omega arith)
+
+one-member : (w k : ℕ) → member (2 ^ w) k ≡ eqb k w
+unfolding member
+one-member zero zero = refl
+one-member zero (suc k) = rw (div-eq-of-lt (pow-lt {i = 0} {j = suc k} (zero-lt-suc k)), eqb·suc-zero k)
+one-member (suc w) zero = rw (div-one, pow-suc, mul-mod-left, eqb·zero-suc w)
+one-member (suc w) (suc k) =
+    rw (half, pow-suc, mul-div-cancel (2 ^ w) {n = 2} (lit< tt), eqb·suc-suc) (one-member w k)
+
+-- the shift of the code, at 64 bits
+pub with-is : (n w k : ℕ) → w < 64 → member (bitOr n (1 * 2 ^ w % 2 ^ 64)) k ≡ (member n k || eqb k w)
+with-is n w k h =
+    rw (one-mul (2 ^ w), mod-eq-of-lt (pow-lt {i = w} {j = 64} h))
+    (or-member n (2 ^ w) k ∙ ap (λ (b : Bool). member n k || b) (one-member w k))
+
+pub has-is : (n k : ℕ) → eqb (bitAnd (n / 2 ^ k) 1) 1 ≡ member n k
+unfolding member
+has-is n k = ap (λ (x : ℕ). eqb x 1) (and-mask (n / 2 ^ k) 1)
+
+pub none-in : (k : ℕ) → member 0 k ≡ false
+unfolding member
+none-in k = rw (zero-div (2 ^ k))
+
+-- The count.
+
+digit-ones : (d : ℕ) → d < 2 → ones d ≡ cond (eqb d 1) 1 0
+digit-ones zero h = ones-ones 0
+digit-ones (suc zero) h = ones-ones 1
+digit-ones (suc (suc d)) h = absurd (omega arith)
+
+tally-ones : (n k : ℕ) → tally (member n) k ≡ ones (n % 2 ^ k)
+unfolding tally member
+tally-ones n zero = sym (ap ones (mod-one n) ∙ ones-ones 0)
+tally-ones n (suc k) =
+    ap₂ _+_ (sym (digit-ones (n / 2 ^ k % 2) (omega arith))) (tally-ones n k)
+    ∙ sym (ones-cat k (n / 2 ^ k % 2) (n % 2 ^ k) (mod-lt n (pow-pos k)))
+    ∙ ap ones (sym (mod-pow-add n 1 k)) ∙ ap (λ (i : ℕ). ones (n % 2 ^ i)) (one-add k)
+
+pub count-is : (n : ℕ) → n < 2 ^ 64 → ones n ≡ tally (member n) 64
+count-is n h = sym (tally-ones n 64 ∙ ap ones (mod-eq-of-lt h))
+
+-- The lowest that is missing.
+
+member-zero : (n : ℕ) → member n 0 ≡ eqb (n % 2) 1
+unfolding member
+member-zero n = rw div-one
+
+member-suc : (n k : ℕ) → member n (suc k) ≡ member (n / 2) k
+unfolding member
+member-suc n k = rw half
+
+-- what the code counts at k digits: the zeros below the lowest one of the complement
+abbrev lowest : ℕ → ℕ → ℕ
+lowest k n = trailingZeros k (2 ^ k - 1 - n)
+
+-- the complement of n at one digit more
+turned : (k n : ℕ) → n < 2 ^ suc k → lowest (suc k) n ≡ under (1 - n % 2) (lowest k (n / 2))
+unfolding trailingZeros
+turned k n h =
+    let l : n < 2 ^ k * 2 = rw pow-suc at h in
+    let p : (2 ^ k * 2 - 1 - n) % 2 ≡ 1 - n % 2 = omega arith in
+    let q : (2 ^ k * 2 - 1 - n) / 2 ≡ 2 ^ k - 1 - n / 2 = omega arith in
+    rw (pow-suc, p, q)
+
+halves : (k n : ℕ) → n < 2 ^ suc k → n / 2 < 2 ^ k
+halves k n h = let l : n < 2 ^ k * 2 = rw pow-suc at h in omega arith
+
+below : (k n j : ℕ) → n < 2 ^ k → j < lowest k n → member n j ≡ true
+unfolding trailingZeros
+below zero n j h g = absurd (omega arith)
+below (suc k) n j h g = go (λ i l. below k (n / 2) i (halves k n h) l) (1 - n % 2) j refl (rw (turned k n h) at g)
+  where
+    go : ((i : ℕ) → i < lowest k (n / 2) → member (n / 2) i ≡ true)
+        → (d j : ℕ) → 1 - n % 2 ≡ d → j < under d (lowest k (n / 2)) → member n j ≡ true
+    go rest zero zero e g = member-zero n ∙ eq-eqb (n % 2) 1 (omega arith)
+    go rest zero (suc j) e g = member-suc n j ∙ rest j (omega arith)
+    go rest (suc d) j e g = absurd (omega arith)
+
+missing : (k n : ℕ) → n < 2 ^ k → lowest k n < k → member n (lowest k n) ≡ false
+unfolding trailingZeros
+missing zero n h g = absurd (omega arith)
+missing (suc k) n h g = rw (turned k n h) (go (missing k (n / 2) (halves k n h)) (1 - n % 2) refl (rw (turned k n h) at g))
+  where
+    go : (lowest k (n / 2) < k → member (n / 2) (lowest k (n / 2)) ≡ false)
+        → (d : ℕ) → 1 - n % 2 ≡ d → under d (lowest k (n / 2)) < suc k → member n (under d (lowest k (n / 2))) ≡ false
+    go rest zero e g = member-suc n _ ∙ rest (omega arith)
+    go rest (suc d) e g = member-zero n ∙ ne-eqb (n % 2) 1 (λ (q : n % 2 ≡ 1). omega arith)
+
+pub lowest-is : (n : ℕ) → n < 2 ^ 64 → LowestMissing (member n) 64 (lowest 64 n)
+lowest-is n h = record { within = trailing-le 64 (2 ^ 64 - 1 - n); below = λ j l. below 64 n j h l; missing = missing 64 n h }

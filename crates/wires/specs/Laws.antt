@@ -1,0 +1,77 @@
+-- Laws of counting and of the lowest missing number, for any set: what callers need to know of the definitions.
+use Prim.Native.Nat.{ℕ, zero, suc, _+_, _-_, _≤_, _<_}
+use mathlib.Core.Path.{_≡_, refl, sym, ap, _∙_}
+use mathlib.Core.Bool.{Bool, true, false, cond, true≢false}
+use native.Mathlib.Nat.{suc-add, zero-add, le-antisymm, lt-of-not-le}
+use native.Mathlib.Omega.{arith}
+use borrow.Author.Count.{below-more}
+use Rattle.wires.specs.Sets.{tally, LowestMissing}
+
+-- the count below n depends only on the members below n
+pub tally-same : (f g : ℕ → Bool) (n : ℕ) → ((k : ℕ) → k < n → f k ≡ g k) → tally f n ≡ tally g n
+unfolding tally
+tally-same f g zero h = refl
+tally-same f g (suc n) h = rw (h n (omega arith), tally-same f g n (λ k l. h k (omega arith)))
+
+-- where none is in from n on, counting further adds nothing
+pub tally-beyond : (f : ℕ → Bool) (n m : ℕ) → n ≤ m → ((k : ℕ) → n ≤ k → f k ≡ false) → tally f m ≡ tally f n
+unfolding tally
+tally-beyond f n m h past = let e : m - n + n ≡ m = omega arith in ap (tally f) (sym e) ∙ more (m - n)
+  where
+    more : (d : ℕ) → tally f (d + n) ≡ tally f n
+    more zero = rw zero-add
+    more (suc d) = rw (suc-add d n, past (d + n) (omega arith), more d) (omega arith)
+
+-- a larger set counts at least as many
+pub tally-grows : (f g : ℕ → Bool) (n : ℕ) → ((k : ℕ) → k < n → f k ≡ true → g k ≡ true) → tally f n ≤ tally g n
+unfolding tally
+tally-grows f g zero h = omega arith
+tally-grows f g (suc n) h = go (f n) (g n) (h n (omega arith)) (tally-grows f g n (λ k l. h k (omega arith)))
+  where
+    go : (a b : Bool) → (a ≡ true → b ≡ true) → tally f n ≤ tally g n → cond a 1 0 + tally f n ≤ cond b 1 0 + tally g n
+    go true true i l = omega arith
+    go true false i l = absurd (true≢false (sym (i refl)))
+    go false true i l = omega arith
+    go false false i l = omega arith
+
+-- and where it counts no more, it is the same
+pub tally-equal : (f g : ℕ → Bool) (n : ℕ) → ((k : ℕ) → k < n → f k ≡ true → g k ≡ true)
+    → tally f n ≡ tally g n → (k : ℕ) → k < n → f k ≡ g k
+unfolding tally
+tally-equal f g zero h e k l = absurd (omega arith)
+tally-equal f g (suc n) h e k l =
+    let both = go (f n) (g n) (h n (omega arith)) e (tally-grows f g n inner) in
+    below-more (λ i. f i ≡ g i) n (tally-equal f g n inner (both .0)) (both .1) k (omega arith)
+  where
+    inner : (i : ℕ) → i < n → f i ≡ true → g i ≡ true
+    inner i j = h i (omega arith)
+
+    go : (a b : Bool) → (a ≡ true → b ≡ true) → cond a 1 0 + tally f n ≡ cond b 1 0 + tally g n → tally f n ≤ tally g n
+        → (tally f n ≡ tally g n) × (a ≡ b)
+    go true true i s m = (omega arith, refl)
+    go true false i s m = absurd (true≢false (sym (i refl)))
+    go false true i s m = absurd (omega arith)
+    go false false i s m = (omega arith, refl)
+
+-- where all below n are in, the count below n is n
+pub all-full : (f : ℕ → Bool) (n : ℕ) → ((k : ℕ) → k < n → f k ≡ true) → tally f n ≡ n
+unfolding tally
+all-full f zero h = refl
+all-full f (suc n) h = rw (h n (omega arith), all-full f n (λ k l. h k (omega arith))) (omega arith)
+
+-- and the converse
+pub tally-full : (f : ℕ → Bool) (n : ℕ) → tally f n ≡ n → (k : ℕ) → k < n → f k ≡ true
+tally-full f n e = tally-equal f (λ _. true) n (λ _ _ _. refl) (e ∙ sym (all-full (λ _. true) n (λ _ _. refl)))
+
+-- the count below n is at most n
+pub tally-bound : (f : ℕ → Bool) (n : ℕ) → tally f n ≤ n
+tally-bound f n = rw (all-full (λ _. true) n (λ _ _. refl)) at (tally-grows f (λ _. true) n (λ _ _ _. refl))
+
+-- a set has one lowest missing number
+pub lowest-missing-unique : (f : ℕ → Bool) (k r s : ℕ) → LowestMissing f k r → LowestMissing f k s → r ≡ s
+lowest-missing-unique f k r s p q = le-antisymm (at-most p q) (at-most q p)
+  where
+    at-most : {r s : ℕ} → LowestMissing f k r → LowestMissing f k s → r ≤ s
+    at-most {r} {s} p q =
+        let h : r < suc s = lt-of-not-le (λ (l : s < r). true≢false (sym (p .below s l) ∙ q .missing (omega arith))) in
+        omega arith

@@ -1,0 +1,20 @@
+-- A set of wire numbers below 64, held as the bits of one number.
+use Prim.Native.Nat.{ℕ, zero, suc, _+_, _/_, _%_, _^_, _≤_, _<_}
+use mathlib.Core.Path.{_≡_}
+use mathlib.Core.Bool.{Bool, true, false, cond}
+use lib.Dec.{eqb}
+
+-- wire k is in the set whose bits are n
+unfoldable pub member : ℕ → ℕ → Bool
+member n k = eqb (n / 2 ^ k % 2) 1
+
+-- how many numbers below k pass a test
+unfoldable pub tally : (ℕ → Bool) → ℕ → ℕ
+tally f zero = zero
+tally f (suc k) = cond (f k) 1 0 + tally f k
+
+-- r is the lowest number below k that is not in the set, or k where all are
+pub record LowestMissing (f : ℕ → Bool) (k r : ℕ) : Type 0 where
+  pub within : r ≤ k
+  pub below : (j : ℕ) → j < r → f j ≡ true
+  pub missing : r < k → f r ≡ false

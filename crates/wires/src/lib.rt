@@ -1,0 +1,52 @@
+// The set of known wires, held as 64 bits by value: wire k is in the set where bit k is 1.
+ghost use mathlib.Core.Path.{_≡_};
+ghost use Prim.Native.Nat.{ℕ, _<_};
+ghost use mathlib.Core.Bool.{_||_, false};
+ghost use lib.Dec.{eqb};
+ghost use Rattle.wires.specs.Sets.{member, tally, LowestMissing};
+
+// A set of wires, each below 64.
+pub struct Wires {
+    pub bits: u64,
+}
+
+impl Wires {
+    // The set with no wire in it.
+    pub fn none() -> Wires
+        ensures { λ r. ⌜ ((k : ℕ) → member (r .bits) k ≡ false) ⌝ }
+    {
+        Wires { bits: 0 }
+    }
+
+    // Whether `wire` is in the set.
+    pub fn has(self, wire: usize) -> bool
+        requires { ⌜ wire < 64 ⌝ }
+        ensures { λ r. ⌜ r ≡ member (self .bits) wire ⌝ }
+    {
+        (self.bits >> wire) & 1 == 1
+    }
+
+    // The set with `wire` added.
+    pub fn with(self, wire: usize) -> Wires
+        requires { ⌜ wire < 64 ⌝ }
+        ensures { λ r. ⌜ ((k : ℕ) → member (r .bits) k ≡ (member (self .bits) k || eqb k wire)) ⌝ }
+    {
+        Wires {
+            bits: self.bits | (1 << wire),
+        }
+    }
+
+    // How many wires are in the set.
+    pub fn count(self) -> u32
+        ensures { λ r. ⌜ r ≡ tally (member (self .bits)) 64 ⌝ }
+    {
+        u64::count_ones(self.bits)
+    }
+
+    // The lowest wire that is not in the set, or 64 where all are.
+    pub fn lowest_missing(self) -> u32
+        ensures { λ r. ⌜ LowestMissing (member (self .bits)) 64 r ⌝ }
+    {
+        u64::trailing_zeros(!self.bits)
+    }
+}

@@ -1,7 +1,2 @@
--- What the proofs of several functions use, and the longer laws of one.
+-- What the proofs of several functions, here and in the crates above, use.
 pub mod Table
-pub mod Steps
-pub mod Fields
-pub mod Locating
-pub mod Scanning
-pub mod Passing

@@ -7,8 +7,6 @@ pub mod Headers
 pub mod Sheets
 pub mod Memory
 pub mod Rows
-pub mod Starts
-pub mod Scans
 pub mod Typing
 pub mod Examples
 pub mod Laws

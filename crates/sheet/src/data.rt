@@ -5,7 +5,7 @@ ghost use mathlib.Core.Path.{_≡_};
 ghost use Rattle.sheet.specs.Data.{typeOfByte, datumOf, wordOf, standsFor};
 ghost use Rattle.sheet.specs.declared.Datum.the-variants.{Boolean};
 
-// The datum that a word stands for.
+// The datum of the type that a word stands for.
 pub fn datum_of(byte: u8, word: u32) -> Datum
     ensures { λ r. ⌜ r ≡ datumOf (typeOfByte byte) word ⌝ }
 {

@@ -1,15 +1,10 @@
 // The sheet: its bytes, its memory's bytes, and what the check and the start answer about them.
 // Rests on `numbers` for words of 32 bits.
 pub mod bodies;
-pub mod check;
 pub mod data;
-mod expressions;
-mod header;
 pub mod kinds;
 pub mod memory;
 pub mod rows;
-pub mod start;
-pub mod starts;
 
 // What an input, a constant, a cell or a known wire holds.
 pub enum Datum {

@@ -10,7 +10,7 @@ ghost use Rattle.numbers.specs.Words.{wordBytes};
 ghost use Rattle.sheet.specs.Data.{typeOfByte};
 ghost use Rattle.sheet.specs.Memory.{readCell, cellBytes};
 
-// The cell with number k, which holds data of the type.
+// The cell with number k, which holds data of the type that the byte stands for.
 pub fn cell_at(memory: &[u8], k: usize, byte: u8) -> Cell
     requires { ⌜ 5 * k + 5 ≤ length (now memory) ⌝ }
     ensures { λ r. ⌜ r ≡ readCell (typeOfByte byte) (now (memory .entry)) k ⌝ }
@@ -34,7 +34,7 @@ pub fn put_cell(memory: &mut [u8], k: usize, cell: Cell)
     }
 }
 
-// Stores a mark and behind it a value.
+// Stores a mark and behind it a value, and changes nothing else.
 fn put_bytes(memory: &mut [u8], at: usize, mark: u8, value: u32)
     requires { ⌜ at + 5 ≤ length (now memory) ⌝ }
     ensures { λ _. ⌜ now (memory .exit) ≡ sets (now (memory .entry)) at (mark ∷ wordBytes value) ⌝ }

@@ -9,7 +9,7 @@ ghost use Rattle.numbers.specs.Words.{wordBytes};
 ghost use Rattle.sheet.specs.Data.{typeOfByte, datumOf, wordOf};
 ghost use Rattle.sheet.specs.Rows.{entryAt};
 
-// The datum that entry i stands for, of the type.
+// The datum in entry i, of the type that the byte stands for.
 pub fn entry_at(row: &[u8], i: usize, byte: u8) -> Datum
     requires { ⌜ 4 * i + 4 ≤ length (now row) ⌝ }
     ensures { λ r. ⌜ r ≡ datumOf (typeOfByte byte) (entryAt (now (row .entry)) i) ⌝ }

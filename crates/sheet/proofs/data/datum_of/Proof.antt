@@ -2,9 +2,8 @@
 use mathlib.Core.Path.{_∙_, ap}
 use mir.Facts.{toZ-ofZ}
 use borrow.Author.Tests.{eq-eqb, ne-eqb}
-use borrow.Author.Needs.{sfits-of}
+use borrow.Author.Needs.{needs, sfits-of}
 use Rattle.sheet.specs.declared.Datum.the-variants.{Number}
-use borrow.Author.Needs.{needs}
 use Rattle.sheet.proofs.data.datum_of.Statement.{statement}
 use Rattle.sheet.proofs.data.datum_of.Tie as tie
 

@@ -1,10 +1,9 @@
 -- `word_of` gives the word that stands for a datum.
 use mathlib.Core.Path.{_∙_, ap}
-use mir.Val.{ofZ}
-use borrow.Author.Needs.{sfits-of}
 use mir.Syntax.{w32}
+use mir.Val.{ofZ}
 use mir.Facts.{toZ-ofZ}
-use borrow.Author.Needs.{needs}
+use borrow.Author.Needs.{needs, sfits-of}
 use Rattle.sheet.proofs.data.word_of.Statement.{statement}
 use Rattle.sheet.proofs.data.word_of.Tie as tie
 

@@ -1,8 +1,8 @@
 -- `cell_at` reads a cell.
 use mathlib.Core.Path.{ap}
-use Rattle.sheet.specs.declared.Cell.the-variants.{Started}
 use borrow.Author.Tests.{eq-eqb, ne-eqb}
 use borrow.Author.Needs.{needs}
+use Rattle.sheet.specs.declared.Cell.the-variants.{Started}
 use Rattle.sheet.proofs.memory.cell_at.Statement.{statement}
 use Rattle.sheet.proofs.memory.cell_at.Tie as tie
 

@@ -1,0 +1,71 @@
+-- How the code's steps go into a reading: an expression's own bytes, and one more expression of a run.
+use Prim.Native.Nat.{ℕ, zero, suc, _+_, _-_, _≤_, _<_}
+use mathlib.Core.Path.{_≡_, refl, sym}
+use mathlib.Core.List.{List, _∷_}
+use native.Mathlib.Numerals.{add-one, sub-one}
+use native.Mathlib.Omega.{arith}
+use lib.ListN.{length, getD, drop}
+use lib.Seq.{drop-cons}
+use Rattle.sheet.specs.Laws.Readings.{not-good}
+use Rattle.sheet.specs.Kinds.{operandsOf}
+use Rattle.sheet.specs.Expressions.{Expression}
+use Rattle.sheet.specs.Readings.{Reading, refused, got, erased, andThen, readEach, ownOf, readExpression}
+use Rattle.sheet.specs.declared.Refusal.{Refusal}
+use Rattle.sheet.specs.declared.Read.the-variants.{Refused, Got}
+
+-- what is built of a reading is erased
+erased-map : {A B : Type 0} (x : Reading A) (f : A → B) → erased (andThen x (λ a n k. got (f a) n k)) ≡ erased x
+erased-map (refused why place) f = refl
+erased-map (got a n k) f = refl
+
+module _ (read : ℕ → ℕ → ℕ → Reading Expression) (types : List ℕ) (i at c : ℕ) (more : i < length types) where
+  abbrev rest : Reading Expression → Reading (List Expression)
+  rest x = andThen x (λ e n k. andThen (readEach read (drop (suc i) types) n k) (λ es m j. got (e ∷ es) m j))
+
+  split : readEach read (drop i types) at c ≡ rest (read (getD types i 0) at c)
+  unfolding readEach
+  split = rw (drop-cons types i 0 more)
+
+  -- an expression of the run that is good leaves the others
+  pub each-good : {n k : ℕ} → erased (read (getD types i 0) at c) ≡ Got n k
+      → erased (readEach read (drop (i + 1) types) n k) ≡ erased (readEach read (drop i types) at c)
+  each-good {n} {k} e = rw (split, add-one) (go (read (getD types i 0) at c) e)
+    where
+      go : (x : Reading Expression) → erased x ≡ Got n k → erased (readEach read (drop (suc i) types) n k) ≡ erased (rest x)
+      go (refused why place) q = cc
+      go (got a m j) q = cc (erased-map (readEach read (drop (suc i) types) m j) (λ es. a ∷ es))
+
+  -- one that is refused ends it
+  pub each-refused : {why : Refusal} {place : ℕ} → erased (read (getD types i 0) at c) ≡ Refused why place
+      → Refused why place ≡ erased (readEach read (drop i types) at c)
+  each-refused {why} {place} e = rw split (go (read (getD types i 0) at c) e)
+    where
+      go : (x : Reading Expression) → erased x ≡ Refused why place → Refused why place ≡ erased (rest x)
+      go (refused w p) q = sym q
+      go (got a m j) q = cc
+
+module _ (inputs wires s : List ℕ) (t at c : ℕ) where
+  -- own bytes that are refused refuse the whole
+  pub own-refused : (level : ℕ) {why : Refusal} {place : ℕ} → ownOf inputs wires s level t at c ≡ Refused why place
+      → Refused why place ≡ erased (readExpression inputs wires s level t at c)
+  unfolding readExpression
+  own-refused zero e = rw e
+  own-refused (suc l) e = rw e
+
+  -- behind good ones the operands' readings are the whole's
+  pub by-operands : (level : ℕ) {n k : ℕ} → 1 ≤ level → ownOf inputs wires s level t at c ≡ Got n k
+      → erased (readEach (readExpression inputs wires s (level - 1)) (operandsOf (getD s at 0) t) n k)
+      ≡ erased (readExpression inputs wires s level t at c)
+  unfolding readExpression
+  by-operands zero d e = absurd (omega arith)
+  by-operands (suc l) {n} {k} d e =
+      rw (sub-one, e) (sym (erased-map (readEach (readExpression inputs wires s l) (operandsOf (getD s at 0) t) n k) _))
+
+-- a reading by its erasure
+pub is-refused : {A : Type 0} (x : Reading A) {why : Refusal} {place : ℕ} → erased x ≡ Refused why place → x ≡ refused why place
+is-refused (refused w p) e = cc
+is-refused (got a m j) e = cc
+
+pub is-got : {A : Type 0} (x : Reading A) {n k : ℕ} → erased x ≡ Got n k → (a : A) × (x ≡ got a n k)
+is-got (refused w p) e = not-good e
+is-got (got a m j) e = (a, cc)

@@ -1,0 +1,3 @@
+-- What the pass over the expressions meets.
+pub mod Scanning
+pub mod Passing

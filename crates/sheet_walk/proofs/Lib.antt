@@ -1,0 +1,3 @@
+-- What the walks meet.
+pub mod Skipping
+pub mod Locating

@@ -1,0 +1,28 @@
+// The walk past an expression that is not valued: each of its kind bytes is met once, and says how far the next one is and how
+// many operands are still ahead. Rests on `kinds`.
+use sheet::kinds;
+ghost use mathlib.Core.Path.{_≡_};
+ghost use Rattle.sheet_walk.specs.Skips.{Readable};
+
+// Where an expression ends, and the number of the first cell past its own.
+pub struct Skipped {
+    pub next: usize,
+    pub cell: usize,
+}
+
+// The end of the expression at `at`, whose first cell has the number `cell`.
+pub fn skip(sheet: &[u8], at: usize, cell: usize) -> Skipped
+    requires { ⌜ Readable (now sheet) at cell ⌝ }
+    ensures { λ r. ⌜ ((p : Readable (now (sheet .entry)) at cell) → r ≡ record { next = p .next; cell = p .count }) ⌝ }
+{
+    let mut next = at;
+    let mut count = cell;
+    let mut pending = 1;
+    while 0 < pending {
+        let kind = sheet[next];
+        pending = pending - 1 + kinds::operands(kind);
+        count += kinds::cells(kind);
+        next += 1 + kinds::body(kind);
+    }
+    Skipped { next, cell: count }
+}

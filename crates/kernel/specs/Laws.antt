@@ -15,4 +15,5 @@ pub mod Demands
 pub mod Typing
 pub mod Storing
 pub mod Memory
+pub mod Places
 pub mod Cases

@@ -4,4 +4,5 @@ pub mod Readings
 pub mod Headers
 pub mod Typing
 pub mod Memory
+pub mod Places
 pub mod Examples

@@ -58,7 +58,7 @@ readSheet s =
     (cond (ltb 4096 (length s)) (refused SheetLength 0)
     (onRead (sectionOf s 0 0 17 2 false TypeByte) refused (λ n k. wiresFrom s (before s n k) n)))
 
-abbrev outcomeOf : Reading Sheet → Outcome Sheet
+abbrev pub outcomeOf : Reading Sheet → Outcome Sheet
 outcomeOf (refused why place) = refusal why place
 outcomeOf (got sheet next count) = result sheet
 

@@ -59,7 +59,7 @@ fn fill(sheet: &[u8], first: usize, memory: &mut [u8])
 }
 
 // Puts the cell that the expression at `at` owns, if it owns one, as the cell with number k.
-fn put_own(sheet: &[u8], at: usize, memory: &mut [u8], k: usize)
+pub fn put_own(sheet: &[u8], at: usize, memory: &mut [u8], k: usize)
     requires { ⌜ Whole (now sheet) at ⌝ }
     requires { ⌜ 5 * k + length (ownBytes (now sheet) at) ≤ length (now memory) ⌝ }
     ensures { λ _. ⌜ now (memory .exit) ≡ sets (now (memory .entry)) (5 * k) (ownBytes (now (sheet .entry)) at) ⌝ }

@@ -1,0 +1,425 @@
+-- Views of a placement: its own bytes and cells, the placements of its operands and its tree; first by the number of operands,
+-- then by the kind.
+use Prim.Native.Nat.{ℕ, zero, suc, _+_, _-_, _*_, _≤_, _<_}
+use mathlib.Core.Path.{_≡_, refl, sym, ap, _∙_}
+use mathlib.Core.Bool.{Bool, true, false}
+use mathlib.Core.List.{List, [], _∷_, _++_}
+use native.Mathlib.Numerals.{sub-one}
+use native.Mathlib.Omega.{arith}
+use lib.ListN.{length, getD, take}
+use lib.Dec.{ltb}
+use borrow.Author.Tests.{ltb-true, ltb-false}
+use Rattle.sheet.specs.Data.{ValueType, boolean, number, typeOfByte, typeOf, datumOf}
+use Rattle.sheet.specs.Expressions.{Expression, constant, wire, input, unary, binary, choose, reset, pre, fby, conditional, present}
+use Rattle.sheet.specs.Expressions.{CellForm, preCell, fbyCell, cellForms, cellCount}
+use Rattle.sheet.specs.Kinds.{Meaning, operand, bodyOf, cellsOf, countOf, operandsOf, foundOf, meaningOf}
+use Rattle.sheet.specs.Readings.{got, readEach, readExpression, bodyAt, Whole}
+use Rattle.sheet.specs.Sheets.{formsOf}
+use Rattle.sheet_walk.specs.Skips.{Readable}
+use Rattle.sheet.specs.Laws.Readings.{OwnGood, ExpressionRead, expression-view, no-level, run-view, expression-extent, run-extent}
+use Rattle.sheet.specs.Laws.Readings.{forms-length, operands-counted, ownForms, forms-of-kind, every-kind, Rows, _▸_, end, row-at}
+use Rattle.sheet.specs.Memory.{readCell}
+use Rattle.sheet.specs.declared.Cell.{Cell}
+use Rattle.kernel.specs.Instant.{cellAt}
+use Rattle.kernel.specs.Operations.{unaryOf, binaryOf}
+use Rattle.expression.specs.Places.{CellStands, CellsStand, none, more, Placement}
+
+-- the cells of two runs of forms stand one run behind the other
+pub cells-split : {memory : List ℕ} {cells : List Cell} {k : ℕ} (fs gs : List CellForm) → CellsStand memory cells k (fs ++ gs)
+    → CellsStand memory cells k fs × CellsStand memory cells (k + length fs) gs
+cells-split {k = k} [] gs s = let e : k + 0 ≡ k = omega arith in (none, rw e s)
+cells-split {k = k} (f ∷ fs) gs (more c s) =
+    let both = cells-split fs gs s in
+    let e : k + suc (length fs) ≡ suc k + length fs = omega arith in
+    (more c (both .0), rw e (both .1))
+
+first-stands : {memory : List ℕ} {cells : List Cell} {k : ℕ} {f : CellForm} {fs : List CellForm} → CellsStand memory cells k (f ∷ fs)
+    → CellStands memory k f (cellAt cells k)
+first-stands (more c s) = c
+
+own-length : (type : ValueType) (body k : ℕ) → k < 18 → length (ownForms k type body) ≡ cellsOf k
+own-length type body = every-kind (λ k. length (ownForms k type body) ≡ cellsOf k)
+    (refl ▸ refl ▸ refl ▸ refl ▸ refl ▸ refl ▸ refl ▸ refl ▸ refl ▸ refl ▸ refl ▸ refl ▸ refl ▸ refl ▸ refl ▸ refl ▸ refl ▸ refl ▸ end)
+
+-- what is shown of some rows, one behind the other, holds of every kind between them
+among : (P : ℕ → Type 0) {low n : ℕ} → Rows P low n → (k : ℕ) → low ≤ k → k < low + n → P k
+among P {low} rows k above below =
+    let e : low + (k - low) ≡ k = omega arith in
+    rw e at (row-at P rows (k - low) (omega arith))
+
+-- the row of kind k, without the types
+abbrev rowOf : ℕ → ℕ × ℕ × ℕ × Meaning
+rowOf k = (bodyOf k, cellsOf k, countOf k, meaningOf k)
+
+abbrev UnaryRow : ℕ → Type 0
+UnaryRow k = rowOf k ≡ (0, 0, 1, λ t b es. unary (unaryOf k) (operand es 0))
+
+unary-row : (k : ℕ) → 4 ≤ k → k < 6 → UnaryRow k
+unfolding meaningOf
+unary-row = among UnaryRow (refl ▸ refl ▸ end)
+
+abbrev BinaryRow : ℕ → Type 0
+BinaryRow k = rowOf k ≡ (0, 0, 2, λ t b es. binary (binaryOf k) (operand es 0) (operand es 1))
+
+binary-row : (k : ℕ) → 6 ≤ k → k < 12 → BinaryRow k
+unfolding meaningOf
+binary-row = among BinaryRow (refl ▸ refl ▸ refl ▸ refl ▸ refl ▸ refl ▸ end)
+
+-- a pre has the type of its operand
+record PreRow (k : ℕ) : Type 0 where
+  row : rowOf k ≡ (bodyOf k, 1, 1, λ t b es. pre (datumOf t b) (operand es 0))
+  types : (inputs wires : List ℕ) (t n : ℕ) → foundOf inputs wires t k n ≡ t → operandsOf k t ≡ t ∷ []
+
+pre-row : (k : ℕ) → 15 ≤ k → k < 17 → PreRow k
+unfolding meaningOf operandsOf
+pre-row = among PreRow (
+    record { row = refl; types = λ is ws t n e. ap (λ u. u ∷ []) e }
+    ▸ record { row = refl; types = λ is ws t n e. ap (λ u. u ∷ []) e }
+    ▸ end)
+
+abbrev ConstantRow : ℕ → Type 0
+ConstantRow k = rowOf k ≡ (bodyOf k, 0, 0, λ t b es. constant (datumOf t b))
+
+constant-row : (k : ℕ) → k < 2 → ConstantRow k
+unfolding meaningOf
+constant-row k below = among ConstantRow {low = 0} (refl ▸ refl ▸ end) k (omega arith) (omega arith)
+
+-- the form of the cell that a kind owns
+record CellRow (type : ValueType) (body k : ℕ) : Type 0 where
+  form : CellForm
+  owns : ownForms k type body ≡ form ∷ []
+  typed : form .type ≡ type
+
+datum-typed : (type : ValueType) (body : ℕ) → typeOf (datumOf type body) ≡ type
+datum-typed boolean body = refl
+datum-typed number body = refl
+
+cell-row : (type : ValueType) (body k : ℕ) → 15 ≤ k → k < 18 → CellRow type body k
+cell-row type body = among (CellRow type body) (
+    record { form = preCell (datumOf type body); owns = refl; typed = datum-typed type body }
+    ▸ record { form = preCell (datumOf type body); owns = refl; typed = datum-typed type body }
+    ▸ record { form = fbyCell type; owns = refl; typed = refl }
+    ▸ end)
+
+-- the types that the code has for the operands, of which the first are the table's
+no-type : (ts : List ℕ) → length ts ≡ 0 → ts ≡ []
+no-type [] e = refl
+no-type (t ∷ ts) e = absurd (omega arith)
+
+one-type : (xs ts : List ℕ) → take 1 xs ≡ ts → length ts ≡ 1 → ts ≡ getD xs 0 0 ∷ []
+one-type [] ts e n = absurd (omega (arith, ap length e))
+one-type (x ∷ xs) ts e n = sym e
+
+two-types : (xs ts : List ℕ) → take 2 xs ≡ ts → length ts ≡ 2 → ts ≡ getD xs 0 0 ∷ getD xs 1 0 ∷ []
+two-types [] ts e n = absurd (omega (arith, ap length e))
+two-types (x ∷ []) ts e n = absurd (omega (arith, ap length e))
+two-types (x ∷ y ∷ xs) ts e n = sym e
+
+-- an expression that reads has a level for itself
+level-view : (inputs wires s : List ℕ) (level t at c : ℕ) {e : Expression} {n k : ℕ}
+    → readExpression inputs wires s level t at c ≡ got e n k
+    → (1 ≤ level) × ExpressionRead inputs wires s (level - 1) t at c e n k
+level-view inputs wires s zero t at c r = absurd (no-level inputs wires s t at c r)
+level-view inputs wires s (suc l) t at c r = (omega arith, rw sub-one (expression-view inputs wires s l t at c r))
+
+module _ {sheet row memory words : List ℕ} {bits level asked at cell : ℕ}
+    (p : Placement sheet row memory words bits level asked at cell) where
+  abbrev kind : ℕ
+  kind = getD sheet at 0
+
+  -- the tree, from the trees of the operands
+  abbrev built : List Expression → Expression
+  built = meaningOf kind (typeOfByte asked) (bodyAt sheet at)
+
+  -- an operand, with type t asked: it reads a level below, and its cells stand from number k on
+  pub record Operand (t a k : ℕ) : Type 0 where
+    pub tree : Expression
+    pub next : ℕ
+    pub count : ℕ
+    pub reads : readExpression (p .inputs) (p .wires) sheet (level - 1) t a k ≡ got tree next count
+    pub cells : CellsStand memory (p .now .memory) k (cellForms tree)
+
+  -- as a placement of its own, in the same environment
+  abbrev pub placed : {t a k : ℕ} → Operand t a k → Placement sheet row memory words bits (level - 1) t a k
+  placed o = record {
+    inputs = p .inputs;
+    wires = p .wires;
+    now = p .now;
+    tree = o .tree;
+    next = o .next;
+    count = o .count;
+    reads = o .reads;
+    stands = p .stands;
+    cells = o .cells;
+  }
+
+  -- for the walk past it
+  abbrev pub readable : {t a k : ℕ} → Operand t a k → Readable sheet a k
+  readable {t} o = record {
+    inputs = p .inputs;
+    wires = p .wires;
+    level = level - 1;
+    asked = t;
+    tree = o .tree;
+    next = o .next;
+    count = o .count;
+    reads = o .reads;
+  }
+
+  -- what is left of the operands, one for each type
+  record Run (ts : List ℕ) (a k : ℕ) (es : List Expression) : Type 0 where
+    reads : readEach (readExpression (p .inputs) (p .wires) sheet (level - 1)) ts a k ≡ got es (p .next) (p .count)
+    cells : CellsStand memory (p .now .memory) k (formsOf es)
+
+  record Split (t : ℕ) (ts : List ℕ) (a k : ℕ) (es : List Expression) : Type 0 where
+    first : Operand t a k
+    tail : List Expression
+    rest : Run ts (first .next) (first .count) tail
+    trees : es ≡ first .tree ∷ tail
+
+  split : (t : ℕ) (ts : List ℕ) (a k : ℕ) {es : List Expression} → Run (t ∷ ts) a k es → Split t ts a k es
+  unfolding formsOf
+  split t ts a k r =
+      let read = readExpression (p .inputs) (p .wires) sheet (level - 1) in
+      let v = run-view read t ts a k (r .reads) in
+      let both = cells-split (cellForms (v .head)) (formsOf (v .tail)) (rw (v .trees) at (r .cells)) in
+      let counted : k + length (cellForms (v .head)) ≡ v .count =
+      omega (arith, forms-length (v .head), expression-extent (p .inputs) (p .wires) sheet (level - 1) t a k (v .first) .counted) in
+      record {
+        first = record { tree = v .head; next = v .next; count = v .count; reads = v .first; cells = both .0 };
+        tail = v .tail;
+        rest = record { reads = v .rest; cells = rw counted at (both .1) };
+        trees = v .trees;
+      }
+
+  record Done (a k : ℕ) (es : List Expression) : Type 0 where
+    trees : es ≡ []
+    next : p .next ≡ a
+    count : p .count ≡ k
+
+  done : (a k : ℕ) {es : List Expression} → Run [] a k es → Done a k es
+  unfolding readEach
+  done a k {es} r =
+      let e = r .reads in
+      record { trees = cc e; next = cc e; count = cc e }
+
+  -- its own bytes and cells, and its operands as a run
+  pub record Opened : Type 0 where
+    pub level-left : 1 ≤ level
+    pub good : OwnGood (p .inputs) (p .wires) sheet (suc (level - 1)) asked at cell (at + 1 + bodyOf kind) (cell + cellsOf kind)
+    pub own : CellsStand memory (p .now .memory) cell (ownForms kind (typeOfByte asked) (bodyAt sheet at))
+    operands : List Expression
+    run : Run (operandsOf kind asked) (at + 1 + bodyOf kind) (cell + cellsOf kind) operands
+    tree : p .tree ≡ built operands
+
+  pub opened : Opened
+  opened =
+      let (left, v) = level-view (p .inputs) (p .wires) sheet level asked at cell (p .reads) in
+      let g = v .good in
+      let sized = run-extent (p .inputs) (p .wires) sheet (level - 1) (operandsOf kind asked) (v .first) (v .before) (v .each) .sized
+      ∙ operands-counted asked kind (g .kind) in
+      let forms = ap cellForms (v .tree) ∙ forms-of-kind kind (g .kind) (typeOfByte asked) (bodyAt sheet at) (v .operands) sized in
+      let both = cells-split (ownForms kind (typeOfByte asked) (bodyAt sheet at)) (formsOf (v .operands)) (rw forms at (p .cells)) in
+      record {
+        level-left = left;
+        good = rw (g .next, g .count) at g;
+        own = both .0;
+        operands = v .operands;
+        run = record { reads = rw (g .next, g .count) at (v .each); cells = rw (own-length _ _ kind (g .kind)) at (both .1) };
+        tree = v .tree;
+      }
+
+  pub whole : Whole sheet at
+  whole = record { kind = opened .good .kind; ends = opened .good .ends }
+
+  -- no operand, or one, two or three, from a place and a number of cells on; the tree by what f makes of theirs
+  pub record Alone (a k : ℕ) (e : Expression) : Type 0 where
+    pub tree : p .tree ≡ e
+    pub next : p .next ≡ a
+    pub count : p .count ≡ k
+
+  pub record One (t a k : ℕ) (f : Expression → Expression) : Type 0 where
+    pub first : Operand t a k
+    pub ends : Alone (first .next) (first .count) (f (first .tree))
+
+  pub record Two (t u a k : ℕ) (f : Expression → Expression → Expression) : Type 0 where
+    pub first : Operand t a k
+    pub second : Operand u (first .next) (first .count)
+    pub ends : Alone (second .next) (second .count) (f (first .tree) (second .tree))
+
+  pub record Three (t u v a k : ℕ) (f : Expression → Expression → Expression → Expression) : Type 0 where
+    pub first : Operand t a k
+    pub second : Operand u (first .next) (first .count)
+    pub third : Operand v (second .next) (second .count)
+    pub ends : Alone (third .next) (third .count) (f (first .tree) (second .tree) (third .tree))
+
+  -- the operands have these types and begin at this place and number of cells
+  record Begins (ts : List ℕ) (a k : ℕ) : Type 0 where
+    types : operandsOf kind asked ≡ ts
+    place : at + 1 + bodyOf kind ≡ a
+    cells : cell + cellsOf kind ≡ k
+
+  begun : {ts : List ℕ} {a k : ℕ} → Begins ts a k → Run ts a k (opened .operands)
+  begun b = rw (b .types, b .place, b .cells) at (opened .run)
+
+  retold : {a k : ℕ} {e e′ : Expression} → Alone a k e → e ≡ e′ → Alone a k e′
+  retold v means = record { tree = v .tree ∙ means; next = v .next; count = v .count }
+
+  -- a run of no operand, and of one, two or three
+  run-of-none : {a k : ℕ} {es : List Expression} (f : List Expression → Expression) → p .tree ≡ f es → Run [] a k es → Alone a k (f [])
+  run-of-none {a} {k} f e r =
+      let d = done a k r in
+      record { tree = e ∙ ap f (d .trees); next = d .next; count = d .count }
+
+  run-of-one : {t a k : ℕ} {es : List Expression} (f : List Expression → Expression) → p .tree ≡ f es → Run (t ∷ []) a k es
+      → One t a k (λ x. f (x ∷ []))
+  run-of-one {t} {a} {k} f e r =
+      let s = split t [] a k r in
+      record { first = s .first; ends = run-of-none (λ es. f (s .first .tree ∷ es)) (e ∙ ap f (s .trees)) (s .rest) }
+
+  run-of-two : {t u a k : ℕ} {es : List Expression} (f : List Expression → Expression) → p .tree ≡ f es → Run (t ∷ u ∷ []) a k es
+      → Two t u a k (λ x y. f (x ∷ y ∷ []))
+  run-of-two {t} {u} {a} {k} f e r =
+      let s = split t (u ∷ []) a k r in
+      let rest = run-of-one (λ es. f (s .first .tree ∷ es)) (e ∙ ap f (s .trees)) (s .rest) in
+      record { first = s .first; second = rest .first; ends = rest .ends }
+
+  run-of-three : {t u v a k : ℕ} {es : List Expression} (f : List Expression → Expression) → p .tree ≡ f es → Run (t ∷ u ∷ v ∷ []) a k es
+      → Three t u v a k (λ x y z. f (x ∷ y ∷ z ∷ []))
+  run-of-three {t} {u} {v} {a} {k} f e r =
+      let s = split t (u ∷ v ∷ []) a k r in
+      let rest = run-of-two (λ es. f (s .first .tree ∷ es)) (e ∙ ap f (s .trees)) (s .rest) in
+      record { first = s .first; second = rest .first; third = rest .second; ends = rest .ends }
+
+  -- by the row of the kind: the types of its operands, where they begin, and what it builds of them
+  alone : {a k : ℕ} {e : Expression} → Begins [] a k → built [] ≡ e → Alone a k e
+  alone b means = retold (run-of-none built (opened .tree) (begun b)) means
+
+  one : {t a k : ℕ} {f : Expression → Expression} → Begins (t ∷ []) a k → ((x : Expression) → built (x ∷ []) ≡ f x) → One t a k f
+  one b means =
+      let v = run-of-one built (opened .tree) (begun b) in
+      record { first = v .first; ends = retold (v .ends) (means (v .first .tree)) }
+
+  two : {t u a k : ℕ} {f : Expression → Expression → Expression} → Begins (t ∷ u ∷ []) a k
+      → ((x y : Expression) → built (x ∷ y ∷ []) ≡ f x y) → Two t u a k f
+  two b means =
+      let v = run-of-two built (opened .tree) (begun b) in
+      record { first = v .first; second = v .second; ends = retold (v .ends) (means (v .first .tree) (v .second .tree)) }
+
+  three : {t u v a k : ℕ} {f : Expression → Expression → Expression → Expression} → Begins (t ∷ u ∷ v ∷ []) a k
+      → ((x y z : Expression) → built (x ∷ y ∷ z ∷ []) ≡ f x y z) → Three t u v a k f
+  three b means =
+      let w = run-of-three built (opened .tree) (begun b) in
+      record {
+        first = w .first;
+        second = w .second;
+        third = w .third;
+        ends = retold (w .ends) (means (w .first .tree) (w .second .tree) (w .third .tree));
+      }
+
+  -- By the kind: where the operands stand, and the tree. The types of an operation's operands are those that the code has.
+  pub unary-view : (types : List ℕ) → take (countOf kind) types ≡ operandsOf kind asked → 4 ≤ kind → kind < 6
+      → One (getD types 0 0) (at + 1) cell (unary (unaryOf kind))
+  unary-view types e low high =
+      let r = unary-row kind low high in
+      let count : countOf kind ≡ 1 = ap (λ x. x .2) r in
+      one (record {
+        types = one-type types _ (rw count at e) (operands-counted asked kind (omega arith) ∙ count);
+        place = omega (arith, ap (λ x. x .0) r);
+        cells = omega (arith, ap (λ x. x .1) r);
+      }) (λ x. ap (λ r. r .3 (typeOfByte asked) (bodyAt sheet at) (x ∷ [])) r)
+
+  pub binary-view : (types : List ℕ) → take (countOf kind) types ≡ operandsOf kind asked → 6 ≤ kind → kind < 12
+      → Two (getD types 0 0) (getD types 1 0) (at + 1) cell (binary (binaryOf kind))
+  binary-view types e low high =
+      let r = binary-row kind low high in
+      let count : countOf kind ≡ 2 = ap (λ x. x .2) r in
+      two (record {
+        types = two-types types _ (rw count at e) (operands-counted asked kind (omega arith) ∙ count);
+        place = omega (arith, ap (λ x. x .0) r);
+        cells = omega (arith, ap (λ x. x .1) r);
+      }) (λ x y. ap (λ r. r .3 (typeOfByte asked) (bodyAt sheet at) (x ∷ y ∷ [])) r)
+
+  -- in either case the first operand
+  pub operation-first : (types : List ℕ) → take (countOf kind) types ≡ operandsOf kind asked → 4 ≤ kind → kind < 12
+      → Operand (getD types 0 0) (at + 1) cell
+  operation-first types e low high = by (ltb kind 6) refl
+    where
+      by : (b : Bool) → ltb kind 6 ≡ b → Operand (getD types 0 0) (at + 1) cell
+      by true t = unary-view types e low (ltb-true _ _ t) .first
+      by false t = binary-view types e (ltb-false _ _ t) high .first
+
+  module _ (is : kind ≡ 12) where
+    pub conditional-view : Three 0 asked asked (at + 1) cell (choose conditional)
+    unfolding meaningOf operandsOf
+    conditional-view = three (record { types = rw is; place = rw is (omega arith); cells = rw is (omega arith) }) (λ x y z. rw is)
+
+  module _ (is : kind ≡ 13) where
+    pub present-view : Three 0 asked asked (at + 1) cell (choose present)
+    unfolding meaningOf operandsOf
+    present-view = three (record { types = rw is; place = rw is (omega arith); cells = rw is (omega arith) }) (λ x y z. rw is)
+
+  module _ (is : kind ≡ 14) where
+    pub reset-view : Two 0 asked (at + 1) cell reset
+    unfolding meaningOf operandsOf
+    reset-view = two (record { types = rw is; place = rw is (omega arith); cells = rw is (omega arith) }) (λ x y. rw is)
+
+  module _ (is : kind ≡ 17) where
+    pub fby-view : Two asked asked (at + 1) (cell + 1) (fby (typeOfByte asked))
+    unfolding meaningOf operandsOf
+    fby-view = two (record { types = rw is; place = rw is (omega arith); cells = rw is (omega arith) }) (λ x y. rw is)
+
+  pub pre-view : 15 ≤ kind → kind < 17 → One asked (at + 1 + bodyOf kind) (cell + 1) (pre (datumOf (typeOfByte asked) (bodyAt sheet at)))
+  pre-view low high =
+      let r = pre-row kind low high in
+      one (record {
+        types = r .types (p .inputs) (p .wires) asked _ (opened .good .type);
+        place = refl;
+        cells = omega (arith, ap (λ x. x .1) (r .row));
+      }) (λ x. ap (λ r. r .3 (typeOfByte asked) (bodyAt sheet at) (x ∷ [])) (r .row))
+
+  pub constant-view : kind < 2 → Alone (at + 1 + bodyOf kind) cell (constant (datumOf (typeOfByte asked) (bodyAt sheet at)))
+  constant-view below =
+      let r = constant-row kind below in
+      alone (record {
+        types = no-type _ (operands-counted asked kind (omega arith) ∙ ap (λ x. x .2) r);
+        place = refl;
+        cells = omega (arith, ap (λ x. x .1) r);
+      }) (ap (λ r. r .3 (typeOfByte asked) (bodyAt sheet at) []) r)
+
+  -- a wire, which has the type asked
+  pub record Named (types : List ℕ) (e : Expression) : Type 0 where
+    pub leaf : Alone (at + 1 + bodyOf kind) cell e
+    pub within : bodyAt sheet at < length types
+    pub typed : getD types (bodyAt sheet at) 0 ≡ asked
+
+  pub wire-view : kind ≡ 2 → Named (p .wires) (wire (bodyAt sheet at))
+  unfolding meaningOf operandsOf
+  wire-view is = record {
+    leaf = alone (record { types = rw is; place = refl; cells = rw is (omega arith) }) (rw is);
+    within = rw is (rw is at (opened .good .names));
+    typed = rw is (rw is at (opened .good .type));
+  }
+
+  pub input-view : kind ≡ 3 → Named (p .inputs) (input (bodyAt sheet at))
+  unfolding meaningOf operandsOf
+  input-view is = record {
+    leaf = alone (record { types = rw is; place = refl; cells = rw is (omega arith) }) (rw is);
+    within = rw is (rw is at (opened .good .names));
+    typed = rw is (rw is at (opened .good .type));
+  }
+
+  -- the cell that a pre or an fby owns
+  pub record OwnCell : Type 0 where
+    pub form : CellForm
+    pub stands : CellStands memory cell form (cellAt (p .now .memory) cell)
+    pub reads : readCell (typeOfByte asked) memory cell ≡ cellAt (p .now .memory) cell
+
+  pub own-cell : 15 ≤ kind → OwnCell
+  own-cell low =
+      let r = cell-row (typeOfByte asked) (bodyAt sheet at) kind low (opened .good .kind) in
+      let stands = first-stands (rw (r .owns) at (opened .own)) in
+      record { form = r .form; stands = stands; reads = rw (r .typed) at (stands .reads) }
+
+  pub operand-counted : {t a k : ℕ} (o : Operand t a k) → o .count ≡ k + cellCount (o .tree)
+  operand-counted {t} {a} {k} o = expression-extent (p .inputs) (p .wires) sheet (level - 1) t a k (o .reads) .counted

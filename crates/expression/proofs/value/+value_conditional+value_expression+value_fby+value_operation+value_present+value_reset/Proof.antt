@@ -1,0 +1,502 @@
+-- The functions that value an expression meet their contracts. The level falls from an expression to its operands; an expression
+-- goes by its kind at the same level.
+use Prim.Native.Nat.{ℕ, _<_, _+_, _*_}
+use mathlib.Core.Path.{_≡_, sym, _∙_}
+use native.Mathlib.Omega.{arith}
+use borrow.Author.Needs.{needs}
+use borrow.Fn.Kinds.{In}
+use borrow.Fn.PlainCycle.{Measures, is, falls, and}
+use Rattle.expression.proofs.Views.{opened, placed, readable, own-cell}
+use Rattle.expression.proofs.Views.{binary-view, operation-first, conditional-view, present-view, reset-view, fby-view}
+use Rattle.expression.proofs.Values.{after-value, after-walk}
+use Rattle.expression.proofs.Answers.{unary-answer, binary-answer, conditional-answer, reset-answer-unknown, reset-answer}
+use Rattle.expression.proofs.Answers.{present-answer-first, present-answer-unknown, present-answer-second}
+use Rattle.expression.proofs.Answers.{fby-answer-left, fby-answer-held}
+use Rattle.expression.proofs.value.value_conditional.Reads as conditional
+use Rattle.expression.proofs.value.value_conditional.Kinds as conditional-kinds
+use Rattle.expression.proofs.value.+value_conditional+value_expression+value_fby+value_operation+value_present+value_reset.Lts-value_conditional as conditional-lts
+use Rattle.expression.proofs.value.value_expression.Reads as expression
+use Rattle.expression.proofs.value.value_expression.Kinds as expression-kinds
+use Rattle.expression.proofs.value.+value_conditional+value_expression+value_fby+value_operation+value_present+value_reset.Lts-value_expression as expression-lts
+use Rattle.expression.proofs.value.value_fby.Reads as fby
+use Rattle.expression.proofs.value.value_fby.Kinds as fby-kinds
+use Rattle.expression.proofs.value.+value_conditional+value_expression+value_fby+value_operation+value_present+value_reset.Lts-value_fby as fby-lts
+use Rattle.expression.proofs.value.value_operation.Reads as operation
+use Rattle.expression.proofs.value.value_operation.Kinds as operation-kinds
+use Rattle.expression.proofs.value.+value_conditional+value_expression+value_fby+value_operation+value_present+value_reset.Lts-value_operation as operation-lts
+use Rattle.expression.proofs.value.value_present.Reads as present
+use Rattle.expression.proofs.value.value_present.Kinds as present-kinds
+use Rattle.expression.proofs.value.+value_conditional+value_expression+value_fby+value_operation+value_present+value_reset.Lts-value_present as present-lts
+use Rattle.expression.proofs.value.value_reset.Reads as reset
+use Rattle.expression.proofs.value.value_reset.Kinds as reset-kinds
+use Rattle.expression.proofs.value.+value_conditional+value_expression+value_fby+value_operation+value_present+value_reset.Lts-value_reset as reset-lts
+use Rattle.expression.proofs.value.value_leaf.Reads as leaf-reads
+use Rattle.expression.proofs.value.value_pre.Reads as pre-reads
+use Rattle.operations.proofs.binary.Reads as binary-reads
+use Rattle.operations.proofs.conditional.Reads as conditional-reads
+use Rattle.operations.proofs.is_true.Reads as is-true-reads
+use Rattle.operations.proofs.is_unknown.Reads as is-unknown-reads
+use Rattle.operations.proofs.started.Reads as started-reads
+use Rattle.operations.proofs.unary.Reads as unary-reads
+use Rattle.sheet.proofs.kinds.operand_types.Reads as operand-types-reads
+use Rattle.sheet.proofs.memory.cell_at.Reads as cell-at-reads
+use Rattle.sheet_walk.proofs.skip.skip.Reads as skip-reads
+use Rattle.expression.proofs.value.+value_conditional+value_expression+value_fby+value_operation+value_present+value_reset.{statement}
+use Rattle.expression.proofs.value.+value_conditional+value_expression+value_fby+value_operation+value_present+value_reset.Tie.{close}
+
+abbrev μ-conditional : Measures 4 conditional-kinds.ps ℕ
+μ-conditional κs a = 2 * a .1 .1 .1 .1 .1 .0
+
+abbrev μ-expression : Measures 4 expression-kinds.ps ℕ
+μ-expression κs a = 2 * a .1 .1 .1 .1 .1 .0 + 1
+
+abbrev μ-fby : Measures 4 fby-kinds.ps ℕ
+μ-fby κs a = 2 * a .1 .1 .1 .1 .1 .0
+
+abbrev μ-operation : Measures 4 operation-kinds.ps ℕ
+μ-operation κs a = 2 * a .1 .1 .1 .1 .1 .0
+
+abbrev μ-present : Measures 4 present-kinds.ps ℕ
+μ-present κs a = 2 * a .1 .1 .1 .1 .1 .0
+
+abbrev μ-reset : Measures 4 reset-kinds.ps ℕ
+μ-reset κs a = 2 * a .1 .1 .1 .1 .1 .0
+
+abbrev conditional-at : ℕ → In 4 conditional-kinds.ps
+conditional-at t = and 4 conditional-kinds.ps (is 4 conditional-kinds.ps μ-conditional t) conditional.Pre
+
+abbrev conditional-below : ℕ → In 4 conditional-kinds.ps
+conditional-below t = and 4 conditional-kinds.ps (falls 4 conditional-kinds.ps _<_ μ-conditional t) conditional.Pre
+
+abbrev expression-at : ℕ → In 4 expression-kinds.ps
+expression-at t = and 4 expression-kinds.ps (is 4 expression-kinds.ps μ-expression t) expression.Pre
+
+abbrev expression-below : ℕ → In 4 expression-kinds.ps
+expression-below t = and 4 expression-kinds.ps (falls 4 expression-kinds.ps _<_ μ-expression t) expression.Pre
+
+abbrev fby-at : ℕ → In 4 fby-kinds.ps
+fby-at t = and 4 fby-kinds.ps (is 4 fby-kinds.ps μ-fby t) fby.Pre
+
+abbrev fby-below : ℕ → In 4 fby-kinds.ps
+fby-below t = and 4 fby-kinds.ps (falls 4 fby-kinds.ps _<_ μ-fby t) fby.Pre
+
+abbrev operation-at : ℕ → In 4 operation-kinds.ps
+operation-at t = and 4 operation-kinds.ps (is 4 operation-kinds.ps μ-operation t) operation.Pre
+
+abbrev operation-below : ℕ → In 4 operation-kinds.ps
+operation-below t = and 4 operation-kinds.ps (falls 4 operation-kinds.ps _<_ μ-operation t) operation.Pre
+
+abbrev present-at : ℕ → In 4 present-kinds.ps
+present-at t = and 4 present-kinds.ps (is 4 present-kinds.ps μ-present t) present.Pre
+
+abbrev present-below : ℕ → In 4 present-kinds.ps
+present-below t = and 4 present-kinds.ps (falls 4 present-kinds.ps _<_ μ-present t) present.Pre
+
+abbrev reset-at : ℕ → In 4 reset-kinds.ps
+reset-at t = and 4 reset-kinds.ps (is 4 reset-kinds.ps μ-reset t) reset.Pre
+
+abbrev reset-below : ℕ → In 4 reset-kinds.ps
+reset-below t = and 4 reset-kinds.ps (falls 4 reset-kinds.ps _<_ μ-reset t) reset.Pre
+
+abbrev conditional-calls : ℕ → conditional-lts.Claims
+conditional-calls t = (
+  expression-below t,
+  expression.Post,
+  conditional-reads.Asked,
+  conditional-reads.Learnt,
+)
+
+abbrev expression-calls : ℕ → expression-lts.Claims
+expression-calls t = (
+  conditional-below t,
+  conditional.Post,
+  present-below t,
+  present.Post,
+  reset-below t,
+  reset.Post,
+  leaf-reads.Asked,
+  leaf-reads.Learnt,
+  operation-below t,
+  operation.Post,
+  pre-reads.Asked,
+  pre-reads.Learnt,
+  fby-below t,
+  fby.Post,
+)
+
+abbrev fby-calls : ℕ → fby-lts.Claims
+fby-calls t = (
+  cell-at-reads.Asked,
+  cell-at-reads.Learnt,
+  started-reads.Asked,
+  started-reads.Learnt,
+  expression-below t,
+  expression.Post,
+  skip-reads.Asked,
+  skip-reads.Learnt,
+)
+
+abbrev operation-calls : ℕ → operation-lts.Claims
+operation-calls t = (
+  operand-types-reads.Asked,
+  operand-types-reads.Learnt,
+  expression-below t,
+  expression.Post,
+  unary-reads.Asked,
+  unary-reads.Learnt,
+  binary-reads.Asked,
+  binary-reads.Learnt,
+)
+
+abbrev present-calls : ℕ → present-lts.Claims
+present-calls t = (
+  expression-below t,
+  expression.Post,
+  is-true-reads.Asked,
+  is-true-reads.Learnt,
+  skip-reads.Asked,
+  skip-reads.Learnt,
+  is-unknown-reads.Asked,
+  is-unknown-reads.Learnt,
+)
+
+abbrev reset-calls : ℕ → reset-lts.Claims
+reset-calls t = (
+  expression-below t,
+  expression.Post,
+  is-unknown-reads.Asked,
+  is-unknown-reads.Learnt,
+  skip-reads.Asked,
+  skip-reads.Learnt,
+  is-true-reads.Asked,
+  is-true-reads.Learnt,
+)
+
+module _ (t : ℕ) where
+  conditional-sub-below : conditional-lts.Need-sub-below (conditional-calls t) (conditional-at t) conditional.Post
+  conditional-sub-below c = opened (c .before .before .before .before .pre .1 .0) .level-left
+
+  conditional-add-first : conditional-lts.Need-add-first (conditional-calls t) (conditional-at t) conditional.Post
+  conditional-add-first c = omega (arith, opened (c .before .before .before .before .pre .1 .0) .good .starts)
+
+  conditional-value-expression-requires : conditional-lts.Need-value-expression-requires (conditional-calls t) (conditional-at t) conditional.Post
+  conditional-value-expression-requires c κs =
+      let p = c .before .before .before .before .pre .1 .0 in
+      let f = c .before .before .before .before .args .fresh in
+      let w = conditional-view p (c .before .before .before .before .pre .1 .1) in
+      (omega (arith, c .before .before .before .before .pre .0, opened p .level-left), placed p (w .first))
+
+  conditional-value-expression-requires-2 : conditional-lts.Need-value-expression-requires-2 (conditional-calls t) (conditional-at t) conditional.Post
+  conditional-value-expression-requires-2 c κs =
+      let p = c .before .before .before .before .before .pre .1 .0 in
+      let f = c .before .before .before .before .before .args .fresh in
+      let w = conditional-view p (c .before .before .before .before .before .pre .1 .1) in
+      (omega (arith, c .before .before .before .before .before .pre .0, opened p .level-left), placed p (after-value p f (w .first) (c .value-expression .ensures) (w .second)))
+
+  conditional-value-expression-requires-3 : conditional-lts.Need-value-expression-requires-3 (conditional-calls t) (conditional-at t) conditional.Post
+  conditional-value-expression-requires-3 c κs =
+      let p = c .before .before .before .before .before .before .pre .1 .0 in
+      let f = c .before .before .before .before .before .before .args .fresh in
+      let w = conditional-view p (c .before .before .before .before .before .before .pre .1 .1) in
+      (omega (arith, c .before .before .before .before .before .before .pre .0, opened p .level-left), placed p (after-value p f (after-value p f (w .first) (c .before .value-expression .ensures) (w .second)) (c .value-expression2 .ensures) (w .third)))
+
+  conditional-conditional-requires : conditional-lts.Need-conditional-requires (conditional-calls t) (conditional-at t) conditional.Post
+  conditional-conditional-requires c κs = search needs
+
+  conditional-returns : conditional-lts.Need-returns (conditional-calls t) (conditional-at t) conditional.Post
+  conditional-returns c =
+      λ p. conditional-answer p (c .before .before .before .before .before .before .before .before .args .fresh) (c .before .before .before .before .before .before .before .before .pre .1 .1) (c .before .before .before .value-expression .ensures) (c .before .before .value-expression2 .ensures)
+      (c .before .value-expression3 .ensures) (c .conditional .ensures)
+
+  expression-shared-slice-read-match : expression-lts.Need-shared-slice-read-match (expression-calls t) (expression-at t) expression.Post
+  expression-shared-slice-read-match c = opened (c .before .before .before .before .before .pre .1) .good .starts
+
+  expression-value-conditional-requires : expression-lts.Need-value-conditional-requires (expression-calls t) (expression-at t) expression.Post
+  expression-value-conditional-requires c κs = (omega (arith, c .before .before .before .before .before .before .pre .0), (c .before .before .before .before .before .before .pre .1, c .match .keys1))
+
+  expression-value-present-requires : expression-lts.Need-value-present-requires (expression-calls t) (expression-at t) expression.Post
+  expression-value-present-requires c κs = (omega (arith, c .before .before .before .before .before .before .pre .0), (c .before .before .before .before .before .before .pre .1, c .match .keys2))
+
+  expression-value-reset-requires : expression-lts.Need-value-reset-requires (expression-calls t) (expression-at t) expression.Post
+  expression-value-reset-requires c κs = (omega (arith, c .before .before .before .before .before .before .pre .0), (c .before .before .before .before .before .before .pre .1, c .match .keys3))
+
+  expression-value-leaf-requires : expression-lts.Need-value-leaf-requires (expression-calls t) (expression-at t) expression.Post
+  expression-value-leaf-requires c κs = (c .before .before .before .before .before .before .before .pre .1, search needs)
+
+  expression-value-operation-requires : expression-lts.Need-value-operation-requires (expression-calls t) (expression-at t) expression.Post
+  expression-value-operation-requires c κs = (omega (arith, c .before .before .before .before .before .before .before .before .pre .0), (c .before .before .before .before .before .before .before .before .pre .1, search needs))
+
+  expression-value-pre-requires : expression-lts.Need-value-pre-requires (expression-calls t) (expression-at t) expression.Post
+  expression-value-pre-requires c κs = (c .before .before .before .before .before .before .before .before .before .pre .1, search needs)
+
+  expression-value-fby-requires : expression-lts.Need-value-fby-requires (expression-calls t) (expression-at t) expression.Post
+  expression-value-fby-requires c κs = (omega (arith, c .before .before .before .before .before .before .before .before .before .pre .0), (c .before .before .before .before .before .before .before .before .before .pre .1, omega (arith, opened (c .before .before .before .before .before .before .before .before .before .pre .1) .good .kind)))
+
+  expression-returns : expression-lts.Need-returns (expression-calls t) (expression-at t) expression.Post
+  expression-returns c = c .value-conditional .ensures
+
+  expression-returns-2 : expression-lts.Need-returns-2 (expression-calls t) (expression-at t) expression.Post
+  expression-returns-2 c = c .value-present .ensures
+
+  expression-returns-3 : expression-lts.Need-returns-3 (expression-calls t) (expression-at t) expression.Post
+  expression-returns-3 c = c .value-reset .ensures
+
+  expression-returns-4 : expression-lts.Need-returns-4 (expression-calls t) (expression-at t) expression.Post
+  expression-returns-4 c = c .value-leaf .ensures
+
+  expression-returns-5 : expression-lts.Need-returns-5 (expression-calls t) (expression-at t) expression.Post
+  expression-returns-5 c = c .value-operation .ensures
+
+  expression-returns-6 : expression-lts.Need-returns-6 (expression-calls t) (expression-at t) expression.Post
+  expression-returns-6 c = c .value-pre .ensures
+
+  expression-returns-7 : expression-lts.Need-returns-7 (expression-calls t) (expression-at t) expression.Post
+  expression-returns-7 c = c .value-fby .ensures
+
+  fby-sub-below : fby-lts.Need-sub-below (fby-calls t) (fby-at t) fby.Post
+  fby-sub-below c = opened (c .before .before .before .before .pre .1 .0) .level-left
+
+  fby-add-first : fby-lts.Need-add-first (fby-calls t) (fby-at t) fby.Post
+  fby-add-first c = omega (arith, opened (c .before .before .before .before .pre .1 .0) .good .starts)
+
+  fby-add-inner : fby-lts.Need-add-inner (fby-calls t) (fby-at t) fby.Post
+  fby-add-inner c = omega (arith, opened (c .before .before .before .before .pre .1 .0) .good .cells)
+
+  fby-cell-at-requires : fby-lts.Need-cell-at-requires (fby-calls t) (fby-at t) fby.Post
+  fby-cell-at-requires c κs = own-cell (c .before .before .before .before .pre .1 .0) (omega (arith, c .before .before .before .before .pre .1 .1)) .stands .fits
+
+  fby-started-requires : fby-lts.Need-started-requires (fby-calls t) (fby-at t) fby.Post
+  fby-started-requires c κs = search needs
+
+  fby-enum-known-seen : fby-lts.Need-enum-known-seen (fby-calls t) (fby-at t) fby.Post
+  fby-enum-known-seen c = search needs
+
+  fby-enum-told : fby-lts.Need-enum-told (fby-calls t) (fby-at t) fby.Post
+  fby-enum-told c = search needs
+
+  fby-value-expression-requires : fby-lts.Need-value-expression-requires (fby-calls t) (fby-at t) fby.Post
+  fby-value-expression-requires c κs =
+      let p = c .before .before .before .before .before .before .before .before .pre .1 .0 in
+      let f = c .before .before .before .before .before .before .before .before .args .fresh in
+      let w = fby-view p (c .before .before .before .before .before .before .before .before .pre .1 .1) in
+      (omega (arith, c .before .before .before .before .before .before .before .before .pre .0, opened p .level-left), placed p (w .first))
+
+  fby-skip-requires : fby-lts.Need-skip-requires (fby-calls t) (fby-at t) fby.Post
+  fby-skip-requires c κs =
+      let p = c .before .before .before .before .before .before .before .before .before .pre .1 .0 in
+      let f = c .before .before .before .before .before .before .before .before .before .args .fresh in
+      let w = fby-view p (c .before .before .before .before .before .before .before .before .before .pre .1 .1) in
+      readable p (after-value p f (w .first) (c .value-expression .ensures) (w .second))
+
+  fby-returns : fby-lts.Need-returns (fby-calls t) (fby-at t) fby.Post
+  fby-returns c =
+      λ p. fby-answer-left p (c .before .before .before .before .before .before .before .before .before .before .args .fresh) (c .before .before .before .before .before .before .before .before .before .before .pre .1 .1) (c .before .before .before .before .before .cell-at .ensures) (c .before .before .before .before .started .ensures)
+      (c .before .before .enum-told .given .1) (c .before .value-expression .ensures) (c .skip .ensures)
+
+  fby-skip-requires-2 : fby-lts.Need-skip-requires-2 (fby-calls t) (fby-at t) fby.Post
+  fby-skip-requires-2 c κs =
+      let p = c .before .before .before .before .before .before .before .before .before .pre .1 .0 in
+      let f = c .before .before .before .before .before .before .before .before .before .args .fresh in
+      let w = fby-view p (c .before .before .before .before .before .before .before .before .before .pre .1 .1) in
+      readable p (w .first)
+
+  fby-skip-requires-3 : fby-lts.Need-skip-requires-3 (fby-calls t) (fby-at t) fby.Post
+  fby-skip-requires-3 c κs =
+      let p = c .before .before .before .before .before .before .before .before .before .before .pre .1 .0 in
+      let f = c .before .before .before .before .before .before .before .before .before .before .args .fresh in
+      let w = fby-view p (c .before .before .before .before .before .before .before .before .before .before .pre .1 .1) in
+      readable p (after-walk p (w .first) (c .skip2 .ensures) (w .second))
+
+  fby-returns-2 : fby-lts.Need-returns-2 (fby-calls t) (fby-at t) fby.Post
+  fby-returns-2 c =
+      λ p. fby-answer-held p (c .before .before .before .before .before .before .before .before .before .before .before .args .fresh) (c .before .before .before .before .before .before .before .before .before .before .before .pre .1 .1) (c .before .before .before .before .before .before .cell-at .ensures) (c .before .before .before .before .before .started .ensures)
+      (c .before .before .before .seen .given .1) (c .before .skip2 .ensures) (c .skip3 .ensures)
+
+  operation-shared-slice-read-kind : operation-lts.Need-shared-slice-read-kind (operation-calls t) (operation-at t) operation.Post
+  operation-shared-slice-read-kind c = opened (c .before .before .before .before .before .pre .1 .0) .good .starts
+
+  operation-operand-types-requires : operation-lts.Need-operand-types-requires (operation-calls t) (operation-at t) operation.Post
+  operation-operand-types-requires c κs = opened (c .before .before .before .before .before .pre .1 .0) .good .kind
+
+  operation-sub-below : operation-lts.Need-sub-below (operation-calls t) (operation-at t) operation.Post
+  operation-sub-below c = opened (c .before .before .before .before .before .before .pre .1 .0) .level-left
+
+  operation-add-first : operation-lts.Need-add-first (operation-calls t) (operation-at t) operation.Post
+  operation-add-first c = omega (arith, opened (c .before .before .before .before .before .before .pre .1 .0) .good .starts)
+
+  operation-array-read-value-expression : operation-lts.Need-array-read-value-expression (operation-calls t) (operation-at t) operation.Post
+  operation-array-read-value-expression c = search needs
+
+  operation-value-expression-requires : operation-lts.Need-value-expression-requires (operation-calls t) (operation-at t) operation.Post
+  operation-value-expression-requires c κs =
+      let p = c .before .before .before .before .before .before .pre .1 .0 in
+      (omega (arith, c .before .before .before .before .before .before .pre .0, opened p .level-left), placed p (operation-first p _ (c .operand-types .ensures) (c .before .before .before .before .before .before .pre .1 .1 .0) (c .before .before .before .before .before .before .pre .1 .1 .1)))
+
+  operation-unary-requires : operation-lts.Need-unary-requires (operation-calls t) (operation-at t) operation.Post
+  operation-unary-requires c κs = search needs
+
+  operation-returns : operation-lts.Need-returns (operation-calls t) (operation-at t) operation.Post
+  operation-returns c =
+      λ p. unary-answer p (c .before .before .before .before .before .before .before .before .before .args .fresh) _ (c .before .before .before .operand-types .ensures) (c .before .before .before .before .before .before .before .before .before .pre .1 .1 .0) (c .before .if1 .taken)
+      (c .before .before .value-expression .ensures) (c .unary .ensures)
+
+  operation-array-read-value-expression-2 : operation-lts.Need-array-read-value-expression-2 (operation-calls t) (operation-at t) operation.Post
+  operation-array-read-value-expression-2 c = search needs
+
+  operation-value-expression-requires-2 : operation-lts.Need-value-expression-requires-2 (operation-calls t) (operation-at t) operation.Post
+  operation-value-expression-requires-2 c κs =
+      let p = c .before .before .before .before .before .before .before .before .pre .1 .0 in
+      let f = c .before .before .before .before .before .before .before .before .args .fresh in
+      let w = binary-view p _ (c .before .before .operand-types .ensures) (c .if1 .left) (c .before .before .before .before .before .before .before .before .pre .1 .1 .1) in
+      (omega (arith, c .before .before .before .before .before .before .before .before .pre .0, opened p .level-left), placed p (after-value p f (w .first) (c .before .value-expression .ensures) (w .second)))
+
+  operation-binary-requires : operation-lts.Need-binary-requires (operation-calls t) (operation-at t) operation.Post
+  operation-binary-requires c κs = search needs
+
+  operation-returns-2 : operation-lts.Need-returns-2 (operation-calls t) (operation-at t) operation.Post
+  operation-returns-2 c =
+      λ p. binary-answer p (c .before .before .before .before .before .before .before .before .before .before .args .fresh) _ (c .before .before .before .before .operand-types .ensures) (c .before .before .if1 .left) (c .before .before .before .before .before .before .before .before .before .before .pre .1 .1 .1)
+      (c .before .before .before .value-expression .ensures) (c .before .value-expression2 .ensures) (c .binary .ensures)
+
+  present-sub-below : present-lts.Need-sub-below (present-calls t) (present-at t) present.Post
+  present-sub-below c = opened (c .before .before .before .before .pre .1 .0) .level-left
+
+  present-add-first : present-lts.Need-add-first (present-calls t) (present-at t) present.Post
+  present-add-first c = omega (arith, opened (c .before .before .before .before .pre .1 .0) .good .starts)
+
+  present-value-expression-requires : present-lts.Need-value-expression-requires (present-calls t) (present-at t) present.Post
+  present-value-expression-requires c κs =
+      let p = c .before .before .before .before .pre .1 .0 in
+      let f = c .before .before .before .before .args .fresh in
+      let w = present-view p (c .before .before .before .before .pre .1 .1) in
+      (omega (arith, c .before .before .before .before .pre .0, opened p .level-left), placed p (w .first))
+
+  present-is-true-requires : present-lts.Need-is-true-requires (present-calls t) (present-at t) present.Post
+  present-is-true-requires c κs = search needs
+
+  present-value-expression-requires-2 : present-lts.Need-value-expression-requires-2 (present-calls t) (present-at t) present.Post
+  present-value-expression-requires-2 c κs =
+      let p = c .before .before .before .before .before .before .before .pre .1 .0 in
+      let f = c .before .before .before .before .before .before .before .args .fresh in
+      let w = present-view p (c .before .before .before .before .before .before .before .pre .1 .1) in
+      (omega (arith, c .before .before .before .before .before .before .before .pre .0, opened p .level-left), placed p (after-value p f (w .first) (c .before .before .value-expression .ensures) (w .second)))
+
+  present-skip-requires : present-lts.Need-skip-requires (present-calls t) (present-at t) present.Post
+  present-skip-requires c κs =
+      let p = c .before .before .before .before .before .before .before .before .pre .1 .0 in
+      let f = c .before .before .before .before .before .before .before .before .args .fresh in
+      let w = present-view p (c .before .before .before .before .before .before .before .before .pre .1 .1) in
+      readable p (after-value p f (after-value p f (w .first) (c .before .before .before .value-expression .ensures) (w .second)) (c .value-expression2 .ensures) (w .third))
+
+  present-returns : present-lts.Need-returns (present-calls t) (present-at t) present.Post
+  present-returns c =
+      λ p. present-answer-first p (c .before .before .before .before .before .before .before .before .before .args .fresh) (c .before .before .before .before .before .before .before .before .before .pre .1 .1) (c .before .before .before .before .value-expression .ensures)
+      (sym (c .before .before .before .is-true .ensures) ∙ c .before .before .if1 .taken) (c .before .value-expression2 .ensures) (c .skip .ensures)
+
+  present-skip-requires-2 : present-lts.Need-skip-requires-2 (present-calls t) (present-at t) present.Post
+  present-skip-requires-2 c κs =
+      let p = c .before .before .before .before .before .before .before .pre .1 .0 in
+      let f = c .before .before .before .before .before .before .before .args .fresh in
+      let w = present-view p (c .before .before .before .before .before .before .before .pre .1 .1) in
+      readable p (after-value p f (w .first) (c .before .before .value-expression .ensures) (w .second))
+
+  present-is-unknown-requires : present-lts.Need-is-unknown-requires (present-calls t) (present-at t) present.Post
+  present-is-unknown-requires c κs = search needs
+
+  present-skip-requires-3 : present-lts.Need-skip-requires-3 (present-calls t) (present-at t) present.Post
+  present-skip-requires-3 c κs =
+      let p = c .before .before .before .before .before .before .before .before .before .before .pre .1 .0 in
+      let f = c .before .before .before .before .before .before .before .before .before .before .args .fresh in
+      let w = present-view p (c .before .before .before .before .before .before .before .before .before .before .pre .1 .1) in
+      readable p (after-walk p (after-value p f (w .first) (c .before .before .before .before .before .value-expression .ensures) (w .second)) (c .before .before .skip2 .ensures) (w .third))
+
+  present-returns-2 : present-lts.Need-returns-2 (present-calls t) (present-at t) present.Post
+  present-returns-2 c =
+      λ p. present-answer-unknown p (c .before .before .before .before .before .before .before .before .before .before .before .args .fresh) (c .before .before .before .before .before .before .before .before .before .before .before .pre .1 .1) (c .before .before .before .before .before .before .value-expression .ensures)
+      (sym (c .before .before .is-unknown .ensures) ∙ c .before .if2 .taken) (c .before .before .before .skip2 .ensures) (c .skip3 .ensures)
+
+  present-value-expression-requires-3 : present-lts.Need-value-expression-requires-3 (present-calls t) (present-at t) present.Post
+  present-value-expression-requires-3 c κs =
+      let p = c .before .before .before .before .before .before .before .before .before .before .pre .1 .0 in
+      let f = c .before .before .before .before .before .before .before .before .before .before .args .fresh in
+      let w = present-view p (c .before .before .before .before .before .before .before .before .before .before .pre .1 .1) in
+      (omega (arith, c .before .before .before .before .before .before .before .before .before .before .pre .0, opened p .level-left), placed p (after-walk p (after-value p f (w .first) (c .before .before .before .before .before .value-expression .ensures) (w .second)) (c .before .before .skip2 .ensures) (w .third)))
+
+  present-returns-3 : present-lts.Need-returns-3 (present-calls t) (present-at t) present.Post
+  present-returns-3 c =
+      λ p. present-answer-second p (c .before .before .before .before .before .before .before .before .before .before .before .args .fresh) (c .before .before .before .before .before .before .before .before .before .before .before .pre .1 .1) (c .before .before .before .before .before .before .value-expression .ensures)
+      (sym (c .before .before .before .before .before .is-true .ensures) ∙ c .before .before .before .before .if1 .left) (sym (c .before .before .is-unknown .ensures) ∙ c .before .if2 .left)
+      (c .before .before .before .skip2 .ensures) (c .value-expression3 .ensures)
+
+  reset-sub-below : reset-lts.Need-sub-below (reset-calls t) (reset-at t) reset.Post
+  reset-sub-below c = opened (c .before .before .before .before .pre .1 .0) .level-left
+
+  reset-add-first : reset-lts.Need-add-first (reset-calls t) (reset-at t) reset.Post
+  reset-add-first c = omega (arith, opened (c .before .before .before .before .pre .1 .0) .good .starts)
+
+  reset-value-expression-requires : reset-lts.Need-value-expression-requires (reset-calls t) (reset-at t) reset.Post
+  reset-value-expression-requires c κs =
+      let p = c .before .before .before .before .pre .1 .0 in
+      let f = c .before .before .before .before .args .fresh in
+      let w = reset-view p (c .before .before .before .before .pre .1 .1) in
+      (omega (arith, c .before .before .before .before .pre .0, opened p .level-left), placed p (w .first))
+
+  reset-is-unknown-requires : reset-lts.Need-is-unknown-requires (reset-calls t) (reset-at t) reset.Post
+  reset-is-unknown-requires c κs = search needs
+
+  reset-skip-requires : reset-lts.Need-skip-requires (reset-calls t) (reset-at t) reset.Post
+  reset-skip-requires c κs =
+      let p = c .before .before .before .before .before .before .before .pre .1 .0 in
+      let f = c .before .before .before .before .before .before .before .args .fresh in
+      let w = reset-view p (c .before .before .before .before .before .before .before .pre .1 .1) in
+      readable p (after-value p f (w .first) (c .before .before .value-expression .ensures) (w .second))
+
+  reset-returns : reset-lts.Need-returns (reset-calls t) (reset-at t) reset.Post
+  reset-returns c =
+      λ p. reset-answer-unknown p (c .before .before .before .before .before .before .before .before .args .fresh) (c .before .before .before .before .before .before .before .before .pre .1 .1) (c .before .before .before .value-expression .ensures)
+      (sym (c .before .before .is-unknown .ensures) ∙ c .before .if1 .taken) (c .skip .ensures)
+
+  reset-is-true-requires : reset-lts.Need-is-true-requires (reset-calls t) (reset-at t) reset.Post
+  reset-is-true-requires c κs = search needs
+
+  reset-value-expression-requires-2 : reset-lts.Need-value-expression-requires-2 (reset-calls t) (reset-at t) reset.Post
+  reset-value-expression-requires-2 c κs =
+      let p = c .before .before .before .before .before .before .before .before .pre .1 .0 in
+      let f = c .before .before .before .before .before .before .before .before .args .fresh in
+      let w = reset-view p (c .before .before .before .before .before .before .before .before .pre .1 .1) in
+      (omega (arith, c .before .before .before .before .before .before .before .before .pre .0, opened p .level-left), placed p (after-value p f (w .first) (c .before .before .before .value-expression .ensures) (w .second)))
+
+  reset-returns-2 : reset-lts.Need-returns-2 (reset-calls t) (reset-at t) reset.Post
+  reset-returns-2 c =
+      λ p. reset-answer p (c .before .before .before .before .before .before .before .before .before .args .fresh) (c .before .before .before .before .before .before .before .before .before .pre .1 .1) (c .before .before .before .before .value-expression .ensures)
+      (sym (c .before .before .before .is-unknown .ensures) ∙ c .before .before .if1 .left) (c .before .is-true .ensures) (c .value-expression2 .ensures)
+
+pub +value-conditional+value-expression+value-fby+value-operation+value-present+value-reset-spec : {M : Type 1} → statement M
++value-conditional+value-expression+value-fby+value-operation+value-present+value-reset-spec =
+    close μ-conditional μ-expression μ-fby μ-operation μ-present μ-reset
+    (λ t. conditional-lts.spec (conditional-calls t) (conditional-at t) conditional.Post
+    (conditional-sub-below t) (conditional-add-first t) (conditional-value-expression-requires t)
+    (conditional-value-expression-requires-2 t) (conditional-value-expression-requires-3 t) (conditional-conditional-requires t)
+    (conditional-returns t))
+    (λ t. expression-lts.spec (expression-calls t) (expression-at t) expression.Post
+    (expression-shared-slice-read-match t) (expression-value-conditional-requires t) (expression-value-present-requires t)
+    (expression-value-reset-requires t) (expression-value-leaf-requires t) (expression-value-operation-requires t)
+    (expression-value-pre-requires t) (expression-value-fby-requires t) (expression-returns t) (expression-returns-2 t)
+    (expression-returns-3 t) (expression-returns-4 t) (expression-returns-5 t) (expression-returns-6 t) (expression-returns-7 t))
+    (λ t. fby-lts.spec (fby-calls t) (fby-at t) fby.Post
+    (fby-sub-below t) (fby-add-first t) (fby-add-inner t) (fby-cell-at-requires t) (fby-started-requires t)
+    (fby-enum-known-seen t) (fby-enum-told t) (fby-value-expression-requires t) (fby-skip-requires t) (fby-returns t)
+    (fby-skip-requires-2 t) (fby-skip-requires-3 t) (fby-returns-2 t))
+    (λ t. operation-lts.spec (operation-calls t) (operation-at t) operation.Post
+    (operation-shared-slice-read-kind t) (operation-operand-types-requires t) (operation-sub-below t) (operation-add-first t)
+    (operation-array-read-value-expression t) (operation-value-expression-requires t) (operation-unary-requires t)
+    (operation-returns t) (operation-array-read-value-expression-2 t) (operation-value-expression-requires-2 t)
+    (operation-binary-requires t) (operation-returns-2 t))
+    (λ t. present-lts.spec (present-calls t) (present-at t) present.Post
+    (present-sub-below t) (present-add-first t) (present-value-expression-requires t) (present-is-true-requires t)
+    (present-value-expression-requires-2 t) (present-skip-requires t) (present-returns t) (present-skip-requires-2 t)
+    (present-is-unknown-requires t) (present-skip-requires-3 t) (present-returns-2 t) (present-value-expression-requires-3 t)
+    (present-returns-3 t))
+    (λ t. reset-lts.spec (reset-calls t) (reset-at t) reset.Post
+    (reset-sub-below t) (reset-add-first t) (reset-value-expression-requires t) (reset-is-unknown-requires t)
+    (reset-skip-requires t) (reset-returns t) (reset-is-true-requires t) (reset-value-expression-requires-2 t) (reset-returns-2 t))

@@ -34,7 +34,7 @@ cellWordAt memory k = wordAt memory (5 * k + 1)
 abbrev pub readCell : ValueType → List ℕ → ℕ → Cell
 readCell t memory k = cond (eqb (markAt memory k) 0) NotStarted (Started (datumOf t (cellWordAt memory k)))
 
-abbrev startsEmpty : Cell → Bool
+abbrev pub startsEmpty : Cell → Bool
 startsEmpty NotStarted = true
 startsEmpty (Started d) = false
 

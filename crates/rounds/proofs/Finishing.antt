@@ -1,0 +1,132 @@
+-- From round to round: each knows more wires than the one before, and where one knows no more the rounds have finished.
+use Prim.Native.Nat.{ℕ, zero, suc, _+_, _≤_, _<_}
+use mathlib.Core.Path.{_≡_, refl, sym, ap, _∙_}
+use mathlib.Core.Bool.{Bool, false, cond}
+use mathlib.Core.List.{List, [], _∷_}
+use native.Mathlib.Numerals.{add-one}
+use native.Mathlib.Omega.{arith}
+use lib.ListN.{length, getD, length-replicate}
+use borrow.Author.Count.{below-more}
+use Rattle.wires.specs.Sets.{member, tally}
+use Rattle.wires.specs.Laws.{tally-beyond}
+use Rattle.sheet.specs.Laws.Readings.{run-extent}
+use Rattle.kernel.specs.Order.{_⊑*_, valueAt, knownCount}
+use Rattle.kernel.specs.Order as Order
+use Rattle.kernel.specs.Systems as System
+use Rattle.kernel.specs.Instants.{wireCount, rounds, finished}
+use Rattle.kernel.specs.Laws.Order.{unknown-at}
+use Rattle.kernel.specs.Laws.Counting.{count-same, count-grows}
+use Rattle.kernel.specs.Laws.Rounds.{climbs, rounds-unique}
+use Rattle.kernel.specs.Laws.Instants.{round-monotone}
+use Rattle.kernel.specs.Laws.Memory.{after-typed}
+use Rattle.kernel.specs.declared.Value.{Value}
+use Rattle.kernel.specs.declared.Value.the-variants.{Unknown}
+use Rattle.rounds.specs.Running.{Held, unheld, held, Holds, Running, roundOf, Before}
+
+-- the count from the front
+tally-front : (f : ℕ → Bool) (n : ℕ) → tally f (suc n) ≡ cond (f 0) 1 0 + tally (λ k. f (suc k)) n
+unfolding tally
+tally-front f zero = refl
+tally-front f (suc n) = omega (arith, tally-front f n)
+
+held-tally : {b : Bool} {word : ℕ} {v : Value} → Held b word v → cond b 1 0 ≡ Order.tally v
+held-tally unheld = refl
+held-tally (held e) = refl
+
+each-counted : (f : ℕ → Bool) (h : ℕ → ℕ) (values : List Value)
+    → ((w : ℕ) → w < length values → Held (f w) (h w) (valueAt values w)) → tally f (length values) ≡ knownCount values
+unfolding tally knownCount
+each-counted f h [] each = refl
+each-counted f h (v ∷ vs) each =
+    let rest = each-counted (λ k. f (suc k)) (λ k. h (suc k)) vs (λ w l. each (suc w) (omega arith)) in
+    omega (arith, tally-front f (length vs), held-tally (each 0 (omega arith)), rest)
+
+-- as many wires are in the set as values are known
+held-count : {n bits : ℕ} {words : List ℕ} {values : List Value} → Holds n bits words values → n ≤ 64
+    → tally (member bits) 64 ≡ knownCount values
+held-count {n} {bits} {words} {values} h few =
+    tally-beyond (member bits) n 64 few (h .beyond)
+    ∙ ap (tally (member bits)) (sym (h .size))
+    ∙ each-counted (member bits) (λ w. getD words w 0) values (λ w l. h .each w (omega (arith, h .size)))
+
+module _ {s memory input types : List ℕ} {first : ℕ} (r : Running s memory input types first) where
+  abbrev after : ℕ → List Value
+  after = System.after (wireCount (r .given .sheet)) (roundOf r)
+
+  monotone : System.Monotone (wireCount (r .given .sheet)) (roundOf r)
+  monotone = round-monotone (r .given .sheet) (r .given .inputs) (r .given .memory)
+
+  ascends : (k : ℕ) → after k ⊑* after (suc k)
+  ascends k = climbs (wireCount (r .given .sheet)) (roundOf r) monotone k (suc k) (omega arith)
+
+  -- after k rounds, of which each changed something
+  pub record Rounded (k bits : ℕ) (words : List ℕ) : Type 0 where
+    pub holds : Holds (length types) bits words (after k)
+    pub changed : (j : ℕ) → j < k → after j ≡ after (suc j) → ⊥
+
+  pub unrounded : {bits : ℕ} {words : List ℕ} → length types ≤ length words → ((w : ℕ) → member bits w ≡ false) → Rounded 0 bits words
+  unfolding System.after
+  unrounded room none =
+      let n = wireCount (r .given .sheet) in
+      record {
+        holds = record {
+          size = length-replicate n Unknown ∙ run-extent (r .inputs) types s 16 types first 0 (r .run) .sized;
+          room = room;
+          each = λ w l. rw (none w, unknown-at n w) unheld;
+          beyond = λ w l. none w;
+        };
+        changed = λ j l. absurd (omega arith);
+      }
+
+  pub before : {k bits : ℕ} {words : List ℕ} → Rounded k bits words → Before s memory input types first bits words
+  unfolding System.after
+  before {k} h =
+      record {
+        running = r;
+        values = after k;
+        holds = h .holds;
+        ascends = ascends k;
+        typed = after-typed (r .given .sheet) (r .given .inputs) (r .given .memory) (r .wellTyped) (r .validInputs) (r .validMemory) k;
+      }
+
+  -- One round more.
+  module _ {k bits grown : ℕ} {words new : List ℕ} (h : Rounded k bits words)
+      (made : (b : Before s memory input types first bits words) → Holds (length types) grown new (roundOf (b .running) (b .values))) where
+    next : Holds (length types) grown new (after (suc k))
+    unfolding System.after before
+    next = made (before h)
+
+    sizes : length (after k) ≡ length (after (suc k))
+    sizes = h .holds .size ∙ sym (next .size)
+
+    pub more-known : (tally (member grown) 64 ≡ tally (member bits) 64 → ⊥) → tally (member bits) 64 < tally (member grown) 64
+    more-known differ =
+        omega (
+          arith,
+          differ,
+          held-count (h .holds) (r .few),
+          held-count next (r .few),
+          count-grows (after k) (after (suc k)) sizes (ascends k),
+        )
+
+    same-values : tally (member grown) 64 ≡ tally (member bits) 64 → after k ≡ after (suc k)
+    same-values e =
+        count-same (after k) (after (suc k)) sizes (ascends k)
+        (omega (arith, held-count (h .holds) (r .few), held-count next (r .few)))
+
+    unchanged-same : after k ≡ after (suc k) → tally (member grown) 64 ≡ tally (member bits) 64
+    unchanged-same e = held-count next (r .few) ∙ ap knownCount (sym e) ∙ sym (held-count (h .holds) (r .few))
+
+    pub one-more : (tally (member grown) 64 ≡ tally (member bits) 64 → ⊥) → Rounded (k + 1) grown new
+    one-more differ = record {
+      holds = rw add-one next;
+      changed = below-more (λ j. after j ≡ after (suc j) → ⊥) k (h .changed) (λ e. differ (unchanged-same e));
+    }
+
+    pub ended : tally (member grown) 64 ≡ tally (member bits) 64
+        → Holds (length types) grown new (finished (r .given .sheet) (r .given .inputs) (r .given .memory))
+        × (k + 1 ≡ rounds (r .given .sheet) (r .given .inputs) (r .given .memory))
+    unfolding finished rounds System.finished
+    ended e =
+        let count = rounds-unique (wireCount (r .given .sheet)) (roundOf r) monotone k (same-values e) (h .changed) in
+        (rw count next, rw add-one (sym count))

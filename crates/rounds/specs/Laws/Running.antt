@@ -1,0 +1,262 @@
+-- Buffers that passed 1 to 16 are what an instant runs on.
+use Prim.Native.Nat.{ℕ, zero, suc, _+_, _-_, _*_, _/_, _%_, _≤_, _<_}
+use mathlib.Core.Path.{_≡_, refl, sym, ap, ap₂, _∙_}
+use mathlib.Core.Bool.{Bool, true, false, not, _&&_, cond}
+use mathlib.Core.List.{List, [], _∷_, map}
+use Rattle.sheet.specs.declared.Datum.{Datum}
+use Rattle.sheet.specs.declared.Refusal.the-variants.{InputLength, InputContent, TypeByte, OutputWire}
+use native.Mathlib.Omega.{arith}
+use lib.Dec.{eqb, ltb}
+use lib.ListN.{length, getD, take, drop, length-take, length-drop, length-map}
+use lib.Seq.{ext-getD, getD-take, getD-drop}
+use borrow.Author.Tests.{eqb-true, eqb-false, ltb-true}
+use mir.Syntax.{w32}
+use mir.Val.{toZ, ofZ}
+use mir.Facts.{ofZ-toZ}
+use Rattle.numbers.specs.Words.{wordAt, wordBytes}
+use Rattle.numbers.specs.Laws.{word-bound}
+use Rattle.sheet.specs.Data.{ValueType, boolean, number, typeOfByte, standsFor, datumOf, wordOf}
+use Rattle.sheet.specs.Expressions.{Expression, CellForm, fbyCell}
+use Rattle.sheet.specs.Readings.{got, readEach, readExpression}
+use Rattle.sheet.specs.Outcomes.{result}
+use Rattle.sheet.specs.Memory.{startsEmpty, cellBytes, markAt, cellWordAt, readCell, validCell, cellsFrom, memoryOf}
+use Rattle.sheet.specs.Rows.{entryAt, wrongAt, dataFrom, inputsOf}
+use Rattle.sheet.specs.Sheets.{Sheet, sheetForms, before}
+use Rattle.sheet.specs.Laws.Outcomes.{same-result, length-passed, any-passed}
+use Rattle.sheet.specs.Laws.Headers.{SheetRead, sheet-view, section-good, section-length}
+use Rattle.sheet.specs.Laws.Typing.{passed-check}
+use Rattle.sheet.specs.Laws.Memory.{memory-view}
+use Rattle.sheet.specs.declared.Cell.{Cell}
+use Rattle.sheet.specs.declared.Cell.the-variants.{NotStarted, Started}
+use Rattle.kernel.specs.Instant.{inputAt, cellAt}
+use Rattle.kernel.specs.Calls.{Given, givenOf}
+use Rattle.kernel.specs.Laws.Lists.{both}
+use Rattle.kernel.specs.Laws.Given.{given-by}
+use Rattle.kernel.specs.Laws.Memory.{given-valid}
+use Rattle.rounds.specs.Running.{Running}
+use Rattle.expression.specs.Places.{CellStands, CellsStand, none, more}
+
+abbrev pub Bytes : List ℕ → Type 0
+Bytes s = (i : ℕ) → getD s i 0 < 256
+
+-- four bytes are the bytes of their word
+low-byte : (a y : ℕ) → a < 256 → (a + 256 * y) % 256 ≡ a
+low-byte a y p = omega arith
+
+rest-bytes : (a y : ℕ) → a < 256 → (a + 256 * y) / 256 ≡ y
+rest-bytes a y p = omega arith
+
+word-bytes : (a b c d : ℕ) → a < 256 → b < 256 → c < 256 → d < 256
+    → wordBytes (a + 256 * b + 65536 * c + 16777216 * d) ≡ a ∷ b ∷ c ∷ d ∷ []
+word-bytes a b c d p q r t =
+    let x = a + 256 * b + 65536 * c + 16777216 * d in
+    let x₀ : x ≡ a + 256 * (b + 256 * (c + 256 * d)) = omega arith in
+    let x₁ : x / 256 ≡ b + 256 * (c + 256 * d) = rw x₀ (rest-bytes a (b + 256 * (c + 256 * d)) p) in
+    let x₂ : x / 65536 ≡ c + 256 * d = omega arith in
+    let x₃ : x / 16777216 ≡ d = omega arith in
+    let e₀ : x % 256 ≡ a = rw x₀ (low-byte a (b + 256 * (c + 256 * d)) p) in
+    let e₁ : x / 256 % 256 ≡ b = rw x₁ (low-byte b (c + 256 * d) q) in
+    let e₂ : x / 65536 % 256 ≡ c = rw x₂ (low-byte c d r) in
+    rw (e₀, e₁, e₂, x₃)
+
+-- the five bytes of a cell are its mark and the four bytes of its word
+five : (l : List ℕ) (i : ℕ) → i + 5 ≤ length l
+    → take 5 (drop i l) ≡ getD l i 0 ∷ getD l (i + 1) 0 ∷ getD l (i + 1 + 1) 0 ∷ getD l (i + 1 + 2) 0 ∷ getD l (i + 1 + 3) 0 ∷ []
+five l i fits = ext-getD 0 _ _ sized (λ j h. go j (rw sized at h))
+  where
+    sized : length (take 5 (drop i l)) ≡ 5
+    sized = simp (length-take, length-drop) (omega arith)
+
+    at : (j k : ℕ) → j < 5 → i + j ≡ k → getD (take 5 (drop i l)) j 0 ≡ getD l k 0
+    at j k h e = rw (getD-take, getD-drop, e)
+
+    go : (j : ℕ) → j < 5
+        → getD (take 5 (drop i l)) j 0
+        ≡ getD (getD l i 0 ∷ getD l (i + 1) 0 ∷ getD l (i + 1 + 1) 0 ∷ getD l (i + 1 + 2) 0 ∷ getD l (i + 1 + 3) 0 ∷ []) j 0
+    go zero h = at 0 i (omega arith) (omega arith)
+    go (suc zero) h = at 1 (i + 1) (omega arith) (omega arith)
+    go (suc (suc zero)) h = at 2 (i + 1 + 1) (omega arith) (omega arith)
+    go (suc (suc (suc zero))) h = at 3 (i + 1 + 2) (omega arith) (omega arith)
+    go (suc (suc (suc (suc zero)))) h = at 4 (i + 1 + 3) (omega arith) (omega arith)
+    go (suc (suc (suc (suc (suc j))))) h = absurd (omega arith)
+
+five-bytes : (memory : List ℕ) (k : ℕ) → Bytes memory → 5 * k + 5 ≤ length memory
+    → take 5 (drop (5 * k) memory) ≡ markAt memory k ∷ wordBytes (cellWordAt memory k)
+five-bytes memory k small fits =
+    let at = 5 * k + 1 in
+    let word = word-bytes (getD memory at 0) (getD memory (at + 1) 0) (getD memory (at + 2) 0) (getD memory (at + 3) 0)
+    (small at) (small (at + 1)) (small (at + 2)) (small (at + 3)) in
+    five memory (5 * k) fits ∙ ap (λ (w : List ℕ). getD memory (5 * k) 0 ∷ w) (sym word)
+
+-- a valid cell's bytes are those of the cell that is read
+valid-bytes : (form : CellForm) (mark word : ℕ) → word < 4294967296 → validCell form mark word ≡ true
+    → mark ∷ wordBytes word ≡ cellBytes (cond (eqb mark 0) NotStarted (Started (datumOf (form .type) word)))
+valid-bytes form mark word small e = go (eqb mark 0) refl e
+  where
+    started : (t : ValueType) → standsFor t word ≡ true → word ≡ wordOf (datumOf t word)
+    started boolean s = go₁ (eqb word 1) refl (ltb-true word 2 s)
+      where
+        go₁ : (t : Bool) → eqb word 1 ≡ t → word < 2 → word ≡ cond t 1 0
+        go₁ true q l = eqb-true word 1 q
+        go₁ false q l = let n = eqb-false word 1 q in omega arith
+    started number s = sym (ofZ-toZ {w = w32} {n = word} (record { fits = small }))
+
+    go : (t : Bool) → eqb mark 0 ≡ t
+        → cond t (startsEmpty (form .start) && eqb word 0) (eqb mark 1 && standsFor (form .type) word) ≡ true
+        → mark ∷ wordBytes word ≡ cellBytes (cond t NotStarted (Started (datumOf (form .type) word)))
+    go true q v =
+        let (empty, zeroed) = both (startsEmpty (form .start)) (eqb word 0) v in
+        let m : mark ≡ 0 = eqb-true mark 0 q in
+        let w : word ≡ 0 = eqb-true word 0 zeroed in
+        rw (m, w)
+    go false q v =
+        let (one, stands) = both (eqb mark 1) (standsFor (form .type) word) v in
+        let m : mark ≡ 1 = eqb-true mark 1 one in
+        let w = started (form .type) stands in
+        rw m (ap (λ (x : ℕ). 1 ∷ wordBytes x) w)
+
+-- the cells of a memory that passed 12 and 13 stand in it, from number k on
+module _ (memory : List ℕ) (small : Bytes memory) where
+  cells-stand : (forms : List CellForm) (cells : List Cell) (k : ℕ)
+      → 5 * (k + length forms) ≤ length memory
+      → ((j : ℕ) → j < length forms → validCell (getD forms j (fbyCell boolean)) (markAt memory (k + j)) (cellWordAt memory (k + j)) ≡ true)
+      → ((j : ℕ) → j < length forms → cellAt cells (k + j) ≡ readCell (getD forms j (fbyCell boolean) .type) memory (k + j))
+      → CellsStand memory cells k forms
+  cells-stand [] cells k fits valid read = none
+  cells-stand (f ∷ fs) cells k fits valid read =
+      let here : k + 0 ≡ k = omega arith in
+      let reads : cellAt cells k ≡ readCell (f .type) memory k = rw here at (read 0 (omega arith)) in
+      let v : validCell f (markAt memory k) (cellWordAt memory k) ≡ true = rw here at (valid 0 (omega arith)) in
+      let room : 5 * k + 5 ≤ length memory = omega arith in
+      let at = 5 * k + 1 in
+      let bound = word-bound memory at (small at) (small (at + 1)) (small (at + 2)) (small (at + 3)) in
+      let bytes = five-bytes memory k small room ∙ valid-bytes f (markAt memory k) (cellWordAt memory k) bound v in
+      more (record { fits = room; bytes = rw reads bytes; reads = sym reads })
+      (cells-stand fs cells (suc k) (omega arith)
+      (λ j l. let e : suc k + j ≡ k + suc j = omega arith in rw e (valid (suc j) (omega arith)))
+      (λ j l. let e : suc k + j ≡ k + suc j = omega arith in rw e (read (suc j) (omega arith))))
+
+  read-at : (forms : List CellForm) (k j : ℕ) → j < length forms
+      → cellAt (cellsFrom memory k forms) j ≡ readCell (getD forms j (fbyCell boolean) .type) memory (k + j)
+  unfolding cellsFrom
+  read-at [] k j l = absurd (omega arith)
+  read-at (f ∷ fs) k zero l = let e : k + 0 ≡ k = omega arith in rw e
+  read-at (f ∷ fs) k (suc j) l = let e : k + suc j ≡ suc k + j = omega arith in rw e (read-at fs (suc k) j (omega arith))
+
+  pub memory-stands : (forms : List CellForm) {cells : List Cell} → memoryOf forms memory ≡ result cells
+      → CellsStand memory cells 0 forms
+  memory-stands forms {cells} e =
+      let v = memory-view forms memory e in
+      let n : ℕ = length forms in
+      let z : (j : ℕ) → 0 + j ≡ j = λ j. omega arith in
+      cells-stand forms cells 0 (omega (arith, v .sized))
+      (λ j l. rw (z j) (v .valid j l))
+      (λ j l. rw (z j, v .is) (read-at forms 0 j l ∙ ap (readCell (getD forms j (fbyCell boolean) .type) memory) (z j)))
+
+-- the data of a row, by entry
+pub row-at : (row : List ℕ) (types : List ℕ) (i j : ℕ) → j < length types
+    → inputAt (dataFrom row i (map typeOfByte types)) j ≡ datumOf (typeOfByte (getD types j 0)) (entryAt row (i + j))
+unfolding dataFrom
+row-at row [] i j l = absurd (omega arith)
+row-at row (t ∷ ts) i zero l = let e : i + 0 ≡ i = omega arith in rw e
+row-at row (t ∷ ts) i (suc j) l = let e : i + suc j ≡ suc i + j = omega arith in rw e (row-at row ts (suc i) j (omega arith))
+
+-- what passes 14 and 15: the length, and the data by entry
+input-view : (types : List ValueType) (row : List ℕ) {ds : List Datum} → inputsOf types row ≡ result ds
+    → (length row ≡ 4 * length types) × (ds ≡ dataFrom row 0 types)
+unfolding inputsOf
+input-view types row e =
+    let (sized, e₁) = length-passed InputLength (length row) (4 * length types) _ e in
+    let (right, e₂) = any-passed InputContent (wrongAt types row) (length types) _ e₁ in
+    (sized, sym (same-result e₂))
+
+-- a run that reads, by equal names
+renamed : (s inputs types others : List ℕ) (at first n k : ℕ) (es trees : List Expression)
+    → readEach (readExpression inputs types s 16) types at 0 ≡ got es n k → others ≡ types → first ≡ at → trees ≡ es
+    → readEach (readExpression inputs others s 16) others first 0 ≡ got trees n k
+renamed s inputs types others at first n k es trees e p q r = rw (p, q, r) e
+
+-- where the parts of a sheet that passed the check stand in its bytes, by its counts
+module _ (s memory input output : List ℕ) (given : Given) (e : givenOf s memory input output ≡ result given) where
+  abbrev inputCount : ℕ
+  inputCount = length (given .sheet .inputTypes)
+
+  abbrev wiresCount : ℕ
+  wiresCount = length (given .sheet .wireTypes)
+
+  abbrev outputCount : ℕ
+  outputCount = length (given .sheet .outputs)
+
+  -- the wires' type bytes, the outputs' bytes and the first expression
+  abbrev pub typesOf : List ℕ
+  typesOf = take wiresCount (drop (2 + inputCount) s)
+
+  abbrev pub outputsOf : List ℕ
+  outputsOf = take outputCount (drop (3 + inputCount + wiresCount) s)
+
+  abbrev pub firstOf : ℕ
+  firstOf = 3 + inputCount + wiresCount + outputCount
+
+  pub record Parts : Type 0 where
+    pub running : Running s memory input typesOf firstOf
+    pub same : running .given ≡ given
+    pub outputs : given .sheet .outputs ≡ outputsOf
+    pub sized : length typesOf ≡ wiresCount
+    pub outputsSized : length outputsOf ≡ outputCount
+    pub within : firstOf ≤ length s
+
+  pub parts : Bytes memory → Parts
+  parts small =
+      let by = given-by s memory input output given e in
+      let passed = passed-check s (by .sheet) in
+      let valid = given-valid s memory input output given e in
+      let v = sheet-view s (passed .read) in
+      let gi = section-good s 0 0 17 2 false TypeByte (v .inputs) in
+      let gw = section-good s (v .inputsEnd) 1 65 2 false TypeByte (v .wires) in
+      let go = section-good s (v .wiresEnd) 1 17 (length (before s (v .wiresEnd) (v .wireCount))) true OutputWire (v .outputs) in
+      let inputs = before s (v .inputsEnd) (v .inputCount) in
+      let types = before s (v .wiresEnd) (v .wireCount) in
+      let outs = before s (v .outputsEnd) (v .outputCount) in
+      let inputTypes : given .sheet .inputTypes ≡ map typeOfByte inputs = ap (λ (x : Sheet). x .inputTypes) (v .is) in
+      let wireTypes : given .sheet .wireTypes ≡ map typeOfByte types = ap (λ (x : Sheet). x .wireTypes) (v .is) in
+      let outputs : given .sheet .outputs ≡ outs = ap (λ (x : Sheet). x .outputs) (v .is) in
+      let trees : given .sheet .expressions ≡ v .expressions = ap (λ (x : Sheet). x .expressions) (v .is) in
+      let ni : inputCount ≡ v .inputCount = ap length inputTypes ∙ length-map inputs typeOfByte ∙ section-length gi in
+      let nw : wiresCount ≡ v .wireCount = ap length wireTypes ∙ length-map types typeOfByte ∙ section-length gw in
+      let no : outputCount ≡ v .outputCount = ap length outputs ∙ section-length go in
+      let at-types : 2 + inputCount ≡ v .wiresEnd - v .wireCount = omega (arith, gi .bytes .next, gw .bytes .next) in
+      let at-outputs : 3 + inputCount + wiresCount ≡ v .outputsEnd - v .outputCount =
+          omega (arith, gi .bytes .next, gw .bytes .next, go .bytes .next) in
+      let at-first : firstOf ≡ v .outputsEnd = omega (arith, gi .bytes .next, gw .bytes .next, go .bytes .next) in
+      let typesAre : typesOf ≡ types = ap₂ (λ (a b : ℕ). take a (drop b s)) nw at-types in
+      let outputsAre : outputsOf ≡ outs = ap₂ (λ (a b : ℕ). take a (drop b s)) no at-outputs in
+      let (sizedInput, row) = input-view (given .sheet .inputTypes) input (by .inputs) in
+      let entries : (i : ℕ) → i < length inputs → inputAt (given .inputs) i ≡ datumOf (typeOfByte (getD inputs i 0)) (entryAt input i) =
+          λ i l. let z : 0 + i ≡ i = omega arith in
+          ap (λ (ds : List Datum). inputAt ds i) (row ∙ ap (dataFrom input 0) inputTypes)
+          ∙ row-at input inputs 0 i l ∙ ap (λ (k : ℕ). datumOf (typeOfByte (getD inputs i 0)) (entryAt input k)) z in
+      record {
+        running = record {
+          given = given;
+          inputs = inputs;
+          next = length s;
+          count = passed .cells;
+          run = renamed s inputs types typesOf (v .outputsEnd) firstOf (length s) (passed .cells) (v .expressions)
+              (given .sheet .expressions) (v .each) typesAre at-first trees;
+          inputTypes = inputTypes;
+          wireTypes = rw typesAre wireTypes;
+          few = rw typesAre (omega (arith, section-length gw, gw .below));
+          inputSize = sizedInput ∙ ap (λ (k : ℕ). 4 * k) (ap length inputTypes ∙ length-map inputs typeOfByte);
+          onInputs = entries;
+          memorySize = memory-view (sheetForms (given .sheet)) memory (by .cells) .sized;
+          cells = memory-stands memory small (sheetForms (given .sheet)) (by .cells);
+          wellTyped = valid .sheet;
+          validInputs = valid .inputs;
+          validMemory = valid .memory;
+        };
+        same = refl;
+        outputs = outputs ∙ sym outputsAre;
+        sized = ap length typesAre ∙ section-length gw ∙ sym nw;
+        outputsSized = ap length outputsAre ∙ section-length go ∙ sym no;
+        within = rw at-first (go .bytes .within);
+      }

@@ -1,0 +1,71 @@
+-- What an instant runs on once 1 to 16 are passed, and how a set of known wires and their words hold the values of wires.
+use Prim.Native.Nat.{ℕ, _*_, _≤_, _<_}
+use mathlib.Core.Path.{_≡_}
+use mathlib.Core.Bool.{Bool, true, false, _||_}
+use mathlib.Core.List.{List, map}
+use lib.Dec.{eqb}
+use lib.ListN.{length, getD, set}
+use Rattle.wires.specs.Sets.{member}
+use Rattle.sheet.specs.Data.{typeOfByte, datumOf, wordOf}
+use Rattle.sheet.specs.Readings.{got, readEach, readExpression}
+use Rattle.sheet.specs.Rows.{entryAt}
+use Rattle.sheet.specs.Sheets.{sheetForms}
+use Rattle.sheet.specs.Typing.{WellTyped, ValidInputs, ValidMemory}
+use Rattle.sheet.specs.declared.Datum.{Datum}
+use Rattle.kernel.specs.Values.{Fits}
+use Rattle.kernel.specs.Order.{valueAt, _⊑*_}
+use Rattle.kernel.specs.Instant.{inputAt}
+use Rattle.kernel.specs.Instants.{round}
+use Rattle.kernel.specs.Calls.{Given}
+use Rattle.kernel.specs.Laws.Typing.{OnWires}
+use Rattle.kernel.specs.declared.Value.{Value}
+use Rattle.kernel.specs.declared.Value.the-variants.{Unknown, Known}
+use Rattle.expression.specs.Places.{CellsStand}
+
+-- the bytes that passed the checks, with what they say: `types` are the wires' type bytes, and their expressions begin at `first`
+pub record Running (s memory input types : List ℕ) (first : ℕ) : Type 0 where
+  pub given : Given
+  pub inputs : List ℕ
+  pub next : ℕ
+  pub count : ℕ
+  pub run : readEach (readExpression inputs types s 16) types first 0 ≡ got (given .sheet .expressions) next count
+  pub inputTypes : given .sheet .inputTypes ≡ map typeOfByte inputs
+  pub wireTypes : given .sheet .wireTypes ≡ map typeOfByte types
+  pub few : length types ≤ 64
+  pub inputSize : length input ≡ 4 * length inputs
+  pub onInputs : (i : ℕ) → i < length inputs → inputAt (given .inputs) i ≡ datumOf (typeOfByte (getD inputs i 0)) (entryAt input i)
+  pub memorySize : length memory ≡ 5 * length (sheetForms (given .sheet))
+  pub cells : CellsStand memory (given .memory) 0 (sheetForms (given .sheet))
+  pub wellTyped : WellTyped (given .sheet)
+  pub validInputs : ValidInputs (given .sheet) (given .inputs)
+  pub validMemory : ValidMemory (given .sheet) (given .memory)
+
+-- an unknown wire is not in the set; a known one is, and its word stands for its datum
+pub data Held : Bool → ℕ → Value → Type 0 where
+  unheld : {word : ℕ} → Held false word Unknown
+  held : {word : ℕ} {d : Datum} → word ≡ wordOf d → Held true word (Known d)
+
+-- the set and the words hold the values of n wires
+pub record Holds (n bits : ℕ) (words : List ℕ) (values : List Value) : Type 0 where
+  pub size : length values ≡ n
+  pub room : n ≤ length words
+  pub each : (w : ℕ) → w < n → Held (member bits w) (getD words w 0) (valueAt values w)
+  pub beyond : (w : ℕ) → n ≤ w → member bits w ≡ false
+
+-- the round of what runs
+abbrev pub roundOf : {s memory input types : List ℕ} {first : ℕ} → Running s memory input types first → List Value → List Value
+roundOf r = round (r .given .sheet) (r .given .inputs) (r .given .memory)
+
+-- what runs, with the values before a round, which it makes grow
+pub record Before (s memory input types : List ℕ) (first bits : ℕ) (words : List ℕ) : Type 0 where
+  pub running : Running s memory input types first
+  pub values : List Value
+  pub holds : Holds (length types) bits words values
+  pub ascends : values ⊑* roundOf running values
+  pub typed : OnWires Fits (running .given .sheet .wireTypes) values
+
+-- the value of wire w was put into a set and words: an unknown one changes nothing
+pub data Put (w bits : ℕ) (words : List ℕ) : Value → (after : ℕ) → List ℕ → Type 0 where
+  passed : {after : ℕ} {new : List ℕ} → after ≡ bits → new ≡ words → Put w bits words Unknown after new
+  put : {d : Datum} {after : ℕ} {new : List ℕ} → ((k : ℕ) → member after k ≡ (member bits k || eqb k w)) → new ≡ set words w (wordOf d)
+      → Put w bits words (Known d) after new

@@ -5,7 +5,7 @@ use mathlib.Core.List.{List, [], _∷_, _++_, map}
 use lib.ListN.{length, getD}
 use lib.Dec.{eqb}
 use Rattle.numbers.specs.Words.{wordAt, wordBytes}
-use Rattle.sheet.specs.Data.{ValueType, boolean, standsFor, datumOf, wordOf}
+use Rattle.sheet.specs.Data.{ValueType, boolean, number, standsFor, datumOf, wordOf}
 use Rattle.sheet.specs.Expressions.{CellForm, fbyCell}
 use Rattle.sheet.specs.Outcomes.{Outcome, refusal, result, followedBy, holdsAfter, unlessLength, unlessAny, packedRefusal}
 use Rattle.sheet.specs.Sheets.{Sheet, sheetForms, sheetOf}
@@ -37,6 +37,15 @@ readCell t memory k = cond (eqb (markAt memory k) 0) NotStarted (Started (datumO
 abbrev pub startsEmpty : Cell → Bool
 startsEmpty NotStarted = true
 startsEmpty (Started d) = false
+
+-- the type byte of a type
+abbrev pub typeByte : ValueType → ℕ
+typeByte boolean = 0
+typeByte number = 1
+
+-- a cell's form as one byte: its type byte, and 2 more where it starts empty, as an fby's does
+abbrev pub formByte : CellForm → ℕ
+formByte form = typeByte (form .type) + cond (startsEmpty (form .start)) 2 0
 
 -- valid: mark 0 only for fby and then value 0; mark 1 with a value of its type
 abbrev pub validCell : CellForm → (mark word : ℕ) → Bool

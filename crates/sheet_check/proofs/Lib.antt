@@ -1,3 +1,4 @@
 -- What the proofs of several functions use.
 pub mod Steps
 pub mod Fields
+pub mod Forms

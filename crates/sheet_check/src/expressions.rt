@@ -5,9 +5,18 @@ use sheet::Refusal;
 use sheet::bodies;
 use sheet::kinds;
 ghost use mathlib.Core.Path.{_≡_};
-ghost use Prim.Native.Nat.{_<_};
+ghost use Prim.Native.Nat.{ℕ, _+_, _<_, _≤_};
+ghost use mathlib.Core.List.{map};
 ghost use lib.ListN.{length, getD};
+ghost use lib.Seq.{sets};
+ghost use Rattle.sheet.specs.Data.{typeOfByte};
+ghost use Rattle.sheet.specs.Expressions.{cellForms};
+ghost use Rattle.sheet.specs.Kinds.{cellsOf};
 ghost use Rattle.sheet.specs.Readings.{erased, readEach, readExpression, ownOf, bodyFrom, namesOf, Whole};
+ghost use Rattle.sheet.specs.Sheets.{formsOf};
+ghost use Rattle.sheet.specs.Memory.{formByte};
+ghost use Rattle.sheet.specs.Laws.Readings.{ownForms};
+ghost use Rattle.sheet_check.specs.Forms.{Types, Recorded};
 
 // 7 and 9, the last of an expression's own tests: what its body names, and its type; behind them are `next` and `count`.
 fn check_names(
@@ -104,7 +113,24 @@ fn check_own(
     check_body(sheet, inputs, wires, asked, at, cells)
 }
 
-// One expression for each of the types asked, in order, from `at` on; the first that is refused ends the reading.
+// Records the form of the cell that an expression of this kind owns, if it owns one, behind `cells` others: an fby has no body.
+fn record_form(kind: u8, asked: u8, cells: usize, forms: &mut [u8])
+    requires { ⌜ (kind < 18) × (asked < 2) × (cells + cellsOf kind ≤ length (now forms)) ⌝ }
+    ensures { λ _. ⌜ ((body : ℕ) → now (forms .exit) ≡ sets (now (forms .entry)) cells
+        (map formByte (ownForms kind (typeOfByte asked) body))) ⌝ }
+{
+    if kinds::cells(kind) == 0 {
+        return;
+    }
+    if kinds::body(kind) == 0 {
+        forms[cells] = asked + 2;
+    } else {
+        forms[cells] = asked;
+    }
+}
+
+// One expression for each of the types asked, in order, from `at` on; the first that is refused ends the reading. The forms of
+// their cells are recorded.
 pub fn check_each(
     sheet: &[u8],
     inputs: &[u8],
@@ -113,15 +139,20 @@ pub fn check_each(
     level: usize,
     at: usize,
     cells: usize,
+    forms: &mut [u8],
 ) -> Read
+    requires { ⌜ Types (now types) ⌝ }
+    requires { ⌜ 64 ≤ length (now forms) ⌝ }
     ensures { λ r. ⌜ r ≡ erased (readEach (readExpression (now (inputs .entry)) (now (wires .entry)) (now (sheet .entry)) level)
         (now (types .entry)) at cells) ⌝ }
+    ensures { λ _. ⌜ Recorded formsOf (readEach (readExpression (now (inputs .entry)) (now (wires .entry)) (now (sheet .entry)) level)
+        (now (types .entry)) at cells) cells (now (forms .entry)) (now (forms .exit)) ⌝ }
 {
     let mut next = at;
     let mut count = cells;
     let mut i = 0;
     while i < types.len() {
-        let one = check_one(sheet, inputs, wires, level, types[i], next, count);
+        let one = check_one(sheet, inputs, wires, level, types[i], next, count, forms);
         let Read::Got { next: n, count: k } = one else {
             return one;
         };
@@ -132,7 +163,7 @@ pub fn check_each(
     Read::Got { next, count }
 }
 
-// The expression at `at`: its own bytes, then its operands.
+// The expression at `at`: its own bytes, then its operands. The forms of its cells are recorded.
 pub fn check_one(
     sheet: &[u8],
     inputs: &[u8],
@@ -141,15 +172,31 @@ pub fn check_one(
     asked: u8,
     at: usize,
     cells: usize,
+    forms: &mut [u8],
 ) -> Read
-    ensures { λ r. ⌜ r ≡ erased (readExpression (now (inputs .entry)) (now (wires .entry)) (now (sheet .entry)) level asked at cells) ⌝ }
+    requires { ⌜ asked < 2 ⌝ }
+    requires { ⌜ 64 ≤ length (now forms) ⌝ }
+    ensures { λ r. ⌜ r ≡ erased (readExpression (now (inputs .entry)) (now (wires .entry)) (now (sheet .entry))
+        level asked at cells) ⌝ }
+    ensures { λ _. ⌜ Recorded cellForms (readExpression (now (inputs .entry)) (now (wires .entry)) (now (sheet .entry))
+        level asked at cells) cells (now (forms .entry)) (now (forms .exit)) ⌝ }
 {
     let head = check_own(sheet, inputs, wires, level, asked, at, cells);
     let Read::Got { next: n, count: k } = head else {
         return head;
     };
     let kind = sheet[at];
+    record_form(kind, asked, cells, forms);
     let types = kinds::operand_types(kind, asked);
     let operands = kinds::operands(kind);
-    check_each(sheet, inputs, wires, &types[..operands], level - 1, n, k)
+    check_each(
+        sheet,
+        inputs,
+        wires,
+        &types[..operands],
+        level - 1,
+        n,
+        k,
+        forms,
+    )
 }

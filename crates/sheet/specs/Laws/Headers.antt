@@ -24,7 +24,7 @@ onRead-good : (first : Read) (f : ℕ → ℕ → Read) {n k : ℕ} → onRead f
 onRead-good (Refused why place) f e = not-good e
 onRead-good (Got m j) f e = (m, j, refl, e)
 
-got-parts : {A : Type 0} {a b : A} {n k m j : ℕ} → got a n k ≡ got b m j → (b ≡ a) × (m ≡ n) × (j ≡ k)
+pub got-parts : {A : Type 0} {a b : A} {n k m j : ℕ} → got a n k ≡ got b m j → (b ≡ a) × (m ≡ n) × (j ≡ k)
 got-parts e = (cc, cc, cc)
 
 -- a byte that is good

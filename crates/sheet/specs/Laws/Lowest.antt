@@ -1,5 +1,5 @@
 -- The lowest number that passes a test.
-use mathlib.Core.Path.{_≡_, refl, sym, _∙_}
+use mathlib.Core.Path.{_≡_, refl, sym, ap, _∙_}
 use Prim.Native.Nat.{ℕ, zero, suc, _≤_, _<_, zero-le}
 use native.Mathlib.Omega.{arith}
 use lib.Dec.{ltb}
@@ -64,3 +64,13 @@ lowest-below test (suc bound) j l p = go (test zero) refl (lowest-below (λ k. t
     go true e later j l p = omega arith
     go false e later zero l p = absurd (true≢false (sym p ∙ e))
     go false e later (suc j) l p = omega (arith, later j (omega arith) p)
+
+-- what a search from 0 on stops at, where the test first passes or else at the bound, is the lowest
+pub lowest-is : (test : ℕ → Bool) (bound r : ℕ) → r ≤ bound → (r < bound → test r ≡ true) → ((j : ℕ) → j < r → test j ≡ false)
+    → lowest test bound ≡ r
+unfolding lowest
+lowest-is test zero r within stops passed = omega arith
+lowest-is test (suc bound) zero within stops passed = rw (stops (omega arith))
+lowest-is test (suc bound) (suc r) within stops passed =
+    rw (passed zero (omega arith))
+    (ap suc (lowest-is (λ k. test (suc k)) bound r (omega arith) (λ l. stops (omega arith)) (λ j l. passed (suc j) (omega arith))))

@@ -223,7 +223,7 @@ forms-of-kind = every-kind FormsOfKind
         → fbyCell t ∷ (cellForms (operand os 0) ++ cellForms (operand os 1)) ≡ fbyCell t ∷ formsOf os
     of-fby t b os e = ap (λ fs. fbyCell t ∷ fs) (forms-of-two os e)
 
-own-forms-length : (type : ValueType) (body k : ℕ) → k < 18 → length (ownForms k type body) ≡ cellsOf k
+pub own-forms-length : (type : ValueType) (body k : ℕ) → k < 18 → length (ownForms k type body) ≡ cellsOf k
 own-forms-length type body = every-kind (λ k. length (ownForms k type body) ≡ cellsOf k)
     (refl ▸ refl ▸ refl ▸ refl ▸ refl ▸ refl ▸ refl ▸ refl ▸ refl ▸ refl ▸ refl ▸ refl ▸ refl ▸ refl ▸ refl ▸ refl ▸ refl ▸ refl ▸ end)
 

@@ -5,6 +5,7 @@ use borrow.Author.Tests.{lt-ltb, le-ltb}
 use borrow.Author.Needs.{needs}
 use Rattle.sheet.specs.Readings.{readEach, readExpression}
 use Rattle.sheet_check.proofs.Steps.{is-refused, is-got}
+use Rattle.sheet_check.proofs.Forms.{run-recorded}
 use Rattle.sheet_check.proofs.expressions_from.Statement.{statement}
 use Rattle.sheet_check.proofs.expressions_from.Tie as tie
 
@@ -17,27 +18,49 @@ enum-known-why c = search needs
 enum-known-next : tie.Need-enum-known-next
 enum-known-next c = search needs
 
+same-length : tie.Need-same-length
+same-length c = search needs
+
 returns : tie.Need-returns
 returns c =
-    let a = c .before .before .before .before .before .before .before .before .before .args in
+    let a = c .before .before .before .before .before .before .before .before .before .before .before .before .before .args in
+    let run = c .before .before .before .before .before .before .check-each .ensures in
     let read = is-got (readEach (readExpression (a .inputs .now) (a .wires .now) (a .sheet .now) 16) (a .wires .now) (a .at) 0)
-    (sym (c .before .before .before .before .check-each .ensures) ∙ c .before .before .next .given .1) in
-    rw (read .1) (simp (lt-ltb _ _ (c .if1 .taken)))
+    (sym (run .0) ∙ c .before .before .next .given .1) in
+    (rw (read .1) (simp (lt-ltb _ _ (c .if1 .taken))), run-recorded _ _ _ _ _ (run .1))
+
+same-length-2 : tie.Need-same-length-2
+same-length-2 c = search needs
 
 returns-2 : tie.Need-returns-2
 returns-2 c =
-    let a = c .before .before .before .before .before .before .before .before .args in
-    rw (is-refused (readEach (readExpression (a .inputs .now) (a .wires .now) (a .sheet .now) 16) (a .wires .now) (a .at) 0)
-    (sym (c .before .before .before .check-each .ensures) ∙ c .before .why .given .1))
+    let a = c .before .before .before .before .before .before .before .before .before .before .before .before .args in
+    let run = c .before .before .before .before .before .check-each .ensures in
+    let read = is-refused (readEach (readExpression (a .inputs .now) (a .wires .now) (a .sheet .now) 16) (a .wires .now) (a .at) 0)
+    (sym (run .0) ∙ c .before .why .given .1) in
+    (rw read, run-recorded _ _ _ _ _ (run .1))
+
+same-length-3 : tie.Need-same-length-3
+same-length-3 c = search needs
 
 returns-3 : tie.Need-returns-3
 returns-3 c =
-    let a = c .before .before .before .before .before .before .before .before .before .args in
+    let a = c .before .before .before .before .before .before .before .before .before .before .before .before .before .args in
+    let run = c .before .before .before .before .before .before .check-each .ensures in
     let read = is-got (readEach (readExpression (a .inputs .now) (a .wires .now) (a .sheet .now) 16) (a .wires .now) (a .at) 0)
-    (sym (c .before .before .before .before .check-each .ensures) ∙ c .before .before .next .given .1) in
-    rw (read .1) (simp (le-ltb _ _ (c .if1 .left), length-map))
+    (sym (run .0) ∙ c .before .before .next .given .1) in
+    (rw (read .1) (simp (le-ltb _ _ (c .if1 .left), length-map)), run-recorded _ _ _ _ _ (run .1))
 
 pub expressions-from-spec : {M : Type 1} → statement M
 expressions-from-spec =
     tie.close
-    (tie.spec check-each-requires enum-known-why enum-known-next returns returns-2 returns-3)
+    (tie.spec
+    check-each-requires
+    enum-known-why
+    enum-known-next
+    same-length
+    returns
+    same-length-2
+    returns-2
+    same-length-3
+    returns-3)

@@ -1,5 +1,5 @@
 -- `outputs_from` meets its contract: the section of the outputs, and what follows it.
-use mathlib.Core.Path.{sym, _∙_}
+use mathlib.Core.Path.{refl, sym, _∙_}
 use mathlib.Core.Bool.{true}
 use native.Mathlib.Omega.{arith}
 use lib.ListN.{length}
@@ -8,6 +8,7 @@ use Rattle.sheet.specs.declared.Refusal.the-variants.{OutputWire}
 use Rattle.sheet.specs.Sheets.{outputsFrom}
 use Rattle.sheet.specs.Laws.Headers.{SectionGood, section-good}
 use Rattle.sheet_check.proofs.Fields.{span}
+use Rattle.sheet_check.proofs.Forms.{recorded-refused}
 use Rattle.sheet_check.proofs.outputs_from.Statement.{statement}
 use Rattle.sheet_check.proofs.outputs_from.Tie as tie
 
@@ -22,10 +23,10 @@ enum-known-next c = search needs
 
 -- the section is good
 ends : (c : tie.After-known-told2)
-    → let a = c .before .before .before .before .before .before .before .args in
+    → let a = c .before .before .before .before .before .before .before .before .args in
     let g = c .before .next .given .0 in SectionGood (a .sheet .now) (a .at) 1 17 (length (a .wires .now)) (g .0) (g .1 .0)
 ends c =
-    let a = c .before .before .before .before .before .before .before .args in
+    let a = c .before .before .before .before .before .before .before .before .args in
     section-good (a .sheet .now) (a .at) 1 17 (length (a .wires .now)) true OutputWire
     (sym (c .before .before .before .section .ensures) ∙ c .before .next .given .1)
 
@@ -46,12 +47,15 @@ expressions-from-requires c κs = search needs
 
 returns : tie.Need-returns
 unfolding outputsFrom
-returns c = rw (sym (c .before .before .before .section .ensures) ∙ c .before .why .given .1)
+returns c = rw (sym (c .before .before .before .section .ensures) ∙ c .before .why .given .1) (refl, recorded-refused refl)
+
+same-length : tie.Need-same-length
+same-length c = search needs
 
 returns-2 : tie.Need-returns-2
 unfolding outputsFrom
-returns-2 c = rw (sym (c .before .before .before .before .before .section .ensures) ∙ c .before .before .before .next .given .1)
-    (rw (span (ends (c .before .before))) at (c .expressions-from .ensures))
+returns-2 c = rw (sym (c .before .before .before .before .before .before .before .before .section .ensures) ∙ c .before .before .before .before .before .before .next .given .1)
+    (rw (span (ends (c .before .before .before .before .before))) at (c .before .before .expressions-from .ensures))
 
 pub outputs-from-spec : {M : Type 1} → statement M
 outputs-from-spec =
@@ -66,4 +70,5 @@ outputs-from-spec =
     part-expressions-from-end
     expressions-from-requires
     returns
+    same-length
     returns-2)

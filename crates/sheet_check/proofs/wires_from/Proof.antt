@@ -1,5 +1,5 @@
 -- `wires_from` meets its contract: the section of the wires, and what follows it.
-use mathlib.Core.Path.{sym, _∙_}
+use mathlib.Core.Path.{refl, sym, _∙_}
 use mathlib.Core.Bool.{false}
 use native.Mathlib.Omega.{arith}
 use borrow.Author.Needs.{needs}
@@ -7,6 +7,7 @@ use Rattle.sheet.specs.declared.Refusal.the-variants.{TypeByte}
 use Rattle.sheet.specs.Sheets.{wiresFrom}
 use Rattle.sheet.specs.Laws.Headers.{SectionGood, section-good}
 use Rattle.sheet_check.proofs.Fields.{span}
+use Rattle.sheet_check.proofs.Forms.{section-types, recorded-refused}
 use Rattle.sheet_check.proofs.wires_from.Statement.{statement}
 use Rattle.sheet_check.proofs.wires_from.Tie as tie
 
@@ -21,10 +22,10 @@ enum-known-next c = search needs
 
 -- the section is good
 ends : (c : tie.After-known-told2)
-    → let a = c .before .before .before .before .before .before .args in
+    → let a = c .before .before .before .before .before .before .before .args in
     let g = c .before .next .given .0 in SectionGood (a .sheet .now) (a .at) 1 65 2 (g .0) (g .1 .0)
 ends c =
-    let a = c .before .before .before .before .before .before .args in
+    let a = c .before .before .before .before .before .before .before .args in
     section-good (a .sheet .now) (a .at) 1 65 2 false TypeByte
     (sym (c .before .before .before .section .ensures) ∙ c .before .next .given .1)
 
@@ -41,16 +42,21 @@ part-outputs-from-end : tie.Need-part-outputs-from-end
 part-outputs-from-end c = ends c .bytes .within
 
 outputs-from-requires : tie.Need-outputs-from-requires
-outputs-from-requires c κs = search needs
+outputs-from-requires c κs =
+    let g = ends (c .before .before) in
+    (rw (span g) (section-types g), c .before .before .before .before .before .before .before .before .before .pre)
 
 returns : tie.Need-returns
 unfolding wiresFrom
-returns c = rw (sym (c .before .before .before .section .ensures) ∙ c .before .why .given .1)
+returns c = rw (sym (c .before .before .before .section .ensures) ∙ c .before .why .given .1) (refl, recorded-refused refl)
+
+same-length : tie.Need-same-length
+same-length c = search needs
 
 returns-2 : tie.Need-returns-2
 unfolding wiresFrom
-returns-2 c = rw (sym (c .before .before .before .before .before .section .ensures) ∙ c .before .before .before .next .given .1)
-    (rw (span (ends (c .before .before))) at (c .outputs-from .ensures))
+returns-2 c = rw (sym (c .before .before .before .before .before .before .before .before .section .ensures) ∙ c .before .before .before .before .before .before .next .given .1)
+    (rw (span (ends (c .before .before .before .before .before))) at (c .before .before .outputs-from .ensures))
 
 pub wires-from-spec : {M : Type 1} → statement M
 wires-from-spec =
@@ -65,4 +71,5 @@ wires-from-spec =
     part-outputs-from-end
     outputs-from-requires
     returns
+    same-length
     returns-2)

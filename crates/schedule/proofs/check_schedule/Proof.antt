@@ -1,0 +1,41 @@
+-- `check_schedule` meets its contract: 17, then 18 over the whole list, then 19 over the whole list.
+use borrow.Author.Needs.{needs}
+use Rattle.schedule.proofs.Ordering.{all-wires, refused-17, refused-18, refused-19, passed}
+use Rattle.schedule.proofs.check_schedule.Statement.{statement}
+use Rattle.schedule.proofs.check_schedule.Tie as tie
+
+returns : tie.Need-returns
+returns c l s are = refused-17 l s _ are (c .if1 .taken)
+
+first-not-new-requires : tie.Need-first-not-new-requires
+first-not-new-requires c κs = search needs
+
+returns-2 : tie.Need-returns-2
+returns-2 c l s are = refused-18 l s _ are (c .before .before .if1 .left) (c .before .first-not-new .ensures) (c .if2 .taken)
+
+first-too-early-requires : tie.Need-first-too-early-requires
+first-too-early-requires c κs =
+    let pre = c .before .before .before .before .before .before .before .pre in
+    let none = rw (c .before .first-not-new .ensures) at (c .if2 .left) in
+    (pre .0, c .before .before .if1 .left, all-wires _ _ none, pre .1)
+
+returns-3 : tie.Need-returns-3
+returns-3 c l s are =
+    refused-19 l s _ are (c .before .before .before .before .if1 .left) (c .before .before .before .first-not-new .ensures)
+    (c .before .before .if2 .left) (c .before .first-too-early .ensures l) (c .if3 .taken)
+
+returns-4 : tie.Need-returns-4
+returns-4 c l s are =
+    passed l s _ are (c .before .before .before .before .if1 .left) (c .before .before .before .first-not-new .ensures)
+    (c .before .before .if2 .left) (c .before .first-too-early .ensures l) (c .if3 .left)
+
+pub check-schedule-spec : {M : Type 1} → statement M
+check-schedule-spec =
+    tie.close
+    (tie.spec
+    returns
+    first-not-new-requires
+    returns-2
+    first-too-early-requires
+    returns-3
+    returns-4)

@@ -1,0 +1,42 @@
+-- An expression whose reads are asked: what stands at its place, whether its wires are all in a set, and which operands count.
+use Prim.Native.Nat.{ℕ, _≤_, _<_}
+use mathlib.Core.Path.{_≡_}
+use mathlib.Core.Bool.{Bool, true, cond, _&&_}
+use mathlib.Core.List.{List, [], _∷_}
+use lib.Dec.{eqb}
+use lib.ListN.{length, getD}
+use Rattle.sheet.specs.Expressions.{Expression}
+use Rattle.sheet.specs.Readings.{got, readExpression, bodyAt, Whole}
+use Rattle.wires.specs.Sets.{member}
+
+-- how many operands of a kind are read within the instant, the first ones: none of a pre's, the left one of an fby's
+abbrev pub heardOf : ℕ → ℕ
+heardOf k = getD (0 ∷ 0 ∷ 0 ∷ 0 ∷ 1 ∷ 1 ∷ 2 ∷ 2 ∷ 2 ∷ 2 ∷ 2 ∷ 2 ∷ 3 ∷ 3 ∷ 2 ∷ 0 ∷ 0 ∷ 1 ∷ []) k 0
+
+-- the wire that an expression of kind k names, by the number in its body
+abbrev pub wiresNamed : ℕ → ℕ → List ℕ
+wiresNamed k body = cond (eqb k 2) (body ∷ []) []
+
+abbrev pub namedWires : List ℕ → ℕ → List ℕ
+namedWires s at = wiresNamed (getD s at 0) (bodyAt s at)
+
+-- every wire of the list is in the set with these bits
+unfoldable pub allIn : ℕ → List ℕ → Bool
+allIn bits [] = true
+allIn bits (w ∷ ws) = member bits w && allIn bits ws
+
+-- an expression's own bytes, where a wire that they name is one of at most 64
+pub record Own (s : List ℕ) (at : ℕ) : Type 0 where
+  pub whole : Whole s at
+  pub names : getD s at 0 ≡ 2 → bodyAt s at < 64
+
+-- an expression reads at the place, with so many levels left and c cells before it, in a sheet of at most 64 wires
+pub record ReadsAt (s : List ℕ) (level at c : ℕ) : Type 0 where
+  pub inputs : List ℕ
+  pub wires : List ℕ
+  pub asked : ℕ
+  pub tree : Expression
+  pub next : ℕ
+  pub count : ℕ
+  pub few : length wires ≤ 64
+  pub reads : readExpression inputs wires s level asked at c ≡ got tree next count

@@ -1,0 +1,620 @@
+-- The functions that advance an expression meet their contracts. The level falls from an expression to its operands; an expression
+-- goes by its kind at the same level.
+use Prim.Native.Nat.{ℕ, _<_, _+_, _*_}
+use mathlib.Core.Path.{_≡_, sym, _∙_}
+use native.Mathlib.Omega.{arith}
+use borrow.Author.Needs.{needs}
+use borrow.Fn.Kinds.{In}
+use borrow.Fn.PlainCycle.{Measures, is, falls, and}
+use Rattle.expression.proofs.Views.{opened, whole, own-cell}
+use Rattle.expression.proofs.Views.{binary-view, conditional-view, present-view, reset-view, pre-view, fby-view}
+use Rattle.storing.proofs.Steps.{one-ready, two-ready, two-ready-2, three-ready, three-ready-2, three-ready-3}
+use Rattle.storing.proofs.Steps.{three-arm-2, three-arm-3, rest-ready-3}
+use Rattle.storing.proofs.Advancing.{leaf-advances, operation-ready, unary-advances, binary-advances, conditional-advances}
+use Rattle.storing.proofs.Advancing.{present-advances-first, present-advances-second, reset-advances, pre-advances, fby-advances}
+use Rattle.storing.proofs.advance.advance_conditional.Reads as conditional
+use Rattle.storing.proofs.advance.advance_conditional.Kinds as conditional-kinds
+use Rattle.storing.proofs.advance.+advance_conditional+advance_expression+advance_fby+advance_operation+advance_pre+advance_present+advance_reset.Lts-advance_conditional as conditional-lts
+use Rattle.storing.proofs.advance.advance_expression.Reads as expression
+use Rattle.storing.proofs.advance.advance_expression.Kinds as expression-kinds
+use Rattle.storing.proofs.advance.+advance_conditional+advance_expression+advance_fby+advance_operation+advance_pre+advance_present+advance_reset.Lts-advance_expression as expression-lts
+use Rattle.storing.proofs.advance.advance_fby.Reads as fby
+use Rattle.storing.proofs.advance.advance_fby.Kinds as fby-kinds
+use Rattle.storing.proofs.advance.+advance_conditional+advance_expression+advance_fby+advance_operation+advance_pre+advance_present+advance_reset.Lts-advance_fby as fby-lts
+use Rattle.storing.proofs.advance.advance_operation.Reads as operation
+use Rattle.storing.proofs.advance.advance_operation.Kinds as operation-kinds
+use Rattle.storing.proofs.advance.+advance_conditional+advance_expression+advance_fby+advance_operation+advance_pre+advance_present+advance_reset.Lts-advance_operation as operation-lts
+use Rattle.storing.proofs.advance.advance_pre.Reads as pre
+use Rattle.storing.proofs.advance.advance_pre.Kinds as pre-kinds
+use Rattle.storing.proofs.advance.+advance_conditional+advance_expression+advance_fby+advance_operation+advance_pre+advance_present+advance_reset.Lts-advance_pre as pre-lts
+use Rattle.storing.proofs.advance.advance_present.Reads as present
+use Rattle.storing.proofs.advance.advance_present.Kinds as present-kinds
+use Rattle.storing.proofs.advance.+advance_conditional+advance_expression+advance_fby+advance_operation+advance_pre+advance_present+advance_reset.Lts-advance_present as present-lts
+use Rattle.storing.proofs.advance.advance_reset.Reads as reset
+use Rattle.storing.proofs.advance.advance_reset.Kinds as reset-kinds
+use Rattle.storing.proofs.advance.+advance_conditional+advance_expression+advance_fby+advance_operation+advance_pre+advance_present+advance_reset.Lts-advance_reset as reset-lts
+use Rattle.expression.proofs.value.value_expression.Reads as value-expression-reads
+use Rattle.operations.proofs.binary.Reads as binary-reads
+use Rattle.operations.proofs.conditional.Reads as conditional-reads
+use Rattle.operations.proofs.datum_in.Reads as datum-in-reads
+use Rattle.operations.proofs.held.Reads as held-reads
+use Rattle.operations.proofs.is_true.Reads as is-true-reads
+use Rattle.operations.proofs.started.Reads as started-reads
+use Rattle.operations.proofs.unary.Reads as unary-reads
+use Rattle.sheet.proofs.bodies.body_at.Reads as body-at-reads
+use Rattle.sheet.proofs.data.datum_of.Reads as datum-of-reads
+use Rattle.sheet.proofs.kinds.body.Reads as body-reads
+use Rattle.sheet.proofs.kinds.operand_types.Reads as operand-types-reads
+use Rattle.sheet.proofs.memory.cell_at.Reads as cell-at-reads
+use Rattle.sheet.proofs.memory.put_cell.Reads as put-cell-reads
+use Rattle.storing.proofs.advance.held_or.Reads as held-or-reads
+use Rattle.storing.proofs.advance.under.Reads as under-reads
+use Rattle.storing.proofs.rest.rest.Reads as rest-reads
+use Rattle.storing.proofs.advance.+advance_conditional+advance_expression+advance_fby+advance_operation+advance_pre+advance_present+advance_reset.{statement}
+use Rattle.storing.proofs.advance.+advance_conditional+advance_expression+advance_fby+advance_operation+advance_pre+advance_present+advance_reset.Tie.{close}
+
+abbrev μ-conditional : Measures 4 conditional-kinds.ps ℕ
+μ-conditional κs a = 2 * a .1 .1 .1 .1 .1 .0
+
+abbrev μ-expression : Measures 4 expression-kinds.ps ℕ
+μ-expression κs a = 2 * a .1 .1 .1 .1 .1 .0 + 1
+
+abbrev μ-fby : Measures 4 fby-kinds.ps ℕ
+μ-fby κs a = 2 * a .1 .1 .1 .1 .1 .0
+
+abbrev μ-operation : Measures 4 operation-kinds.ps ℕ
+μ-operation κs a = 2 * a .1 .1 .1 .1 .1 .0
+
+abbrev μ-pre : Measures 4 pre-kinds.ps ℕ
+μ-pre κs a = 2 * a .1 .1 .1 .1 .1 .0
+
+abbrev μ-present : Measures 4 present-kinds.ps ℕ
+μ-present κs a = 2 * a .1 .1 .1 .1 .1 .0
+
+abbrev μ-reset : Measures 4 reset-kinds.ps ℕ
+μ-reset κs a = 2 * a .1 .1 .1 .1 .1 .0
+
+abbrev conditional-at : ℕ → In 4 conditional-kinds.ps
+conditional-at t = and 4 conditional-kinds.ps (is 4 conditional-kinds.ps μ-conditional t) conditional.Pre
+
+abbrev conditional-below : ℕ → In 4 conditional-kinds.ps
+conditional-below t = and 4 conditional-kinds.ps (falls 4 conditional-kinds.ps _<_ μ-conditional t) conditional.Pre
+
+abbrev expression-at : ℕ → In 4 expression-kinds.ps
+expression-at t = and 4 expression-kinds.ps (is 4 expression-kinds.ps μ-expression t) expression.Pre
+
+abbrev expression-below : ℕ → In 4 expression-kinds.ps
+expression-below t = and 4 expression-kinds.ps (falls 4 expression-kinds.ps _<_ μ-expression t) expression.Pre
+
+abbrev fby-at : ℕ → In 4 fby-kinds.ps
+fby-at t = and 4 fby-kinds.ps (is 4 fby-kinds.ps μ-fby t) fby.Pre
+
+abbrev fby-below : ℕ → In 4 fby-kinds.ps
+fby-below t = and 4 fby-kinds.ps (falls 4 fby-kinds.ps _<_ μ-fby t) fby.Pre
+
+abbrev operation-at : ℕ → In 4 operation-kinds.ps
+operation-at t = and 4 operation-kinds.ps (is 4 operation-kinds.ps μ-operation t) operation.Pre
+
+abbrev operation-below : ℕ → In 4 operation-kinds.ps
+operation-below t = and 4 operation-kinds.ps (falls 4 operation-kinds.ps _<_ μ-operation t) operation.Pre
+
+abbrev pre-at : ℕ → In 4 pre-kinds.ps
+pre-at t = and 4 pre-kinds.ps (is 4 pre-kinds.ps μ-pre t) pre.Pre
+
+abbrev pre-below : ℕ → In 4 pre-kinds.ps
+pre-below t = and 4 pre-kinds.ps (falls 4 pre-kinds.ps _<_ μ-pre t) pre.Pre
+
+abbrev present-at : ℕ → In 4 present-kinds.ps
+present-at t = and 4 present-kinds.ps (is 4 present-kinds.ps μ-present t) present.Pre
+
+abbrev present-below : ℕ → In 4 present-kinds.ps
+present-below t = and 4 present-kinds.ps (falls 4 present-kinds.ps _<_ μ-present t) present.Pre
+
+abbrev reset-at : ℕ → In 4 reset-kinds.ps
+reset-at t = and 4 reset-kinds.ps (is 4 reset-kinds.ps μ-reset t) reset.Pre
+
+abbrev reset-below : ℕ → In 4 reset-kinds.ps
+reset-below t = and 4 reset-kinds.ps (falls 4 reset-kinds.ps _<_ μ-reset t) reset.Pre
+
+abbrev conditional-calls : ℕ → conditional-lts.Claims
+conditional-calls t = (
+  expression-below t,
+  expression.Post,
+  conditional-reads.Asked,
+  conditional-reads.Learnt,
+)
+
+abbrev expression-calls : ℕ → expression-lts.Claims
+expression-calls t = (
+  conditional-below t,
+  conditional.Post,
+  present-below t,
+  present.Post,
+  reset-below t,
+  reset.Post,
+  value-expression-reads.Asked,
+  value-expression-reads.Learnt,
+  operation-below t,
+  operation.Post,
+  pre-below t,
+  pre.Post,
+  fby-below t,
+  fby.Post,
+)
+
+abbrev fby-calls : ℕ → fby-lts.Claims
+fby-calls t = (
+  cell-at-reads.Asked,
+  cell-at-reads.Learnt,
+  started-reads.Asked,
+  started-reads.Learnt,
+  expression-below t,
+  expression.Post,
+  datum-in-reads.Asked,
+  datum-in-reads.Learnt,
+  put-cell-reads.Asked,
+  put-cell-reads.Learnt,
+  held-or-reads.Asked,
+  held-or-reads.Learnt,
+)
+
+abbrev operation-calls : ℕ → operation-lts.Claims
+operation-calls t = (
+  operand-types-reads.Asked,
+  operand-types-reads.Learnt,
+  expression-below t,
+  expression.Post,
+  unary-reads.Asked,
+  unary-reads.Learnt,
+  binary-reads.Asked,
+  binary-reads.Learnt,
+)
+
+abbrev pre-calls : ℕ → pre-lts.Claims
+pre-calls t = (
+  body-reads.Asked,
+  body-reads.Learnt,
+  body-at-reads.Asked,
+  body-at-reads.Learnt,
+  datum-of-reads.Asked,
+  datum-of-reads.Learnt,
+  cell-at-reads.Asked,
+  cell-at-reads.Learnt,
+  held-reads.Asked,
+  held-reads.Learnt,
+  expression-below t,
+  expression.Post,
+  datum-in-reads.Asked,
+  datum-in-reads.Learnt,
+  put-cell-reads.Asked,
+  put-cell-reads.Learnt,
+)
+
+abbrev present-calls : ℕ → present-lts.Claims
+present-calls t = (
+  expression-below t,
+  expression.Post,
+  is-true-reads.Asked,
+  is-true-reads.Learnt,
+  rest-reads.Asked,
+  rest-reads.Learnt,
+  under-reads.Asked,
+  under-reads.Learnt,
+)
+
+abbrev reset-calls : ℕ → reset-lts.Claims
+reset-calls t = (
+  expression-below t,
+  expression.Post,
+  is-true-reads.Asked,
+  is-true-reads.Learnt,
+  under-reads.Asked,
+  under-reads.Learnt,
+)
+
+module _ (t : ℕ) where
+  conditional-sub-below : conditional-lts.Need-sub-below (conditional-calls t) (conditional-at t) conditional.Post
+  conditional-sub-below c = opened (c .before .before .before .before .pre .1 .0 .place) .level-left
+
+  conditional-add-first : conditional-lts.Need-add-first (conditional-calls t) (conditional-at t) conditional.Post
+  conditional-add-first c = omega (arith, opened (c .before .before .before .before .pre .1 .0 .place) .good .starts)
+
+  conditional-advance-expression-requires : conditional-lts.Need-advance-expression-requires (conditional-calls t) (conditional-at t) conditional.Post
+  conditional-advance-expression-requires c κs =
+      let p = c .before .before .before .before .before .pre .1 .0 in
+      let w = conditional-view (p .place) (c .before .before .before .before .before .pre .1 .1) in
+      (omega (arith, c .before .before .before .before .before .pre .0, opened (p .place) .level-left), three-ready p w)
+
+  conditional-advance-expression-requires-2 : conditional-lts.Need-advance-expression-requires-2 (conditional-calls t) (conditional-at t) conditional.Post
+  conditional-advance-expression-requires-2 c κs =
+      let p = c .before .before .before .before .before .before .before .before .before .pre .1 .0 in
+      let w = conditional-view (p .place) (c .before .before .before .before .before .before .before .before .before .pre .1 .1) in
+      (omega (arith, c .before .before .before .before .before .before .before .before .before .pre .0, opened (p .place) .level-left), three-ready-2 p w (c .before .before .before .advance-expression .ensures))
+
+  conditional-advance-expression-requires-3 : conditional-lts.Need-advance-expression-requires-3 (conditional-calls t) (conditional-at t) conditional.Post
+  conditional-advance-expression-requires-3 c κs =
+      let p = c .before .before .before .before .before .before .before .before .before .before .before .before .before .pre .1 .0 in
+      let w = conditional-view (p .place) (c .before .before .before .before .before .before .before .before .before .before .before .before .before .pre .1 .1) in
+      (omega (arith, c .before .before .before .before .before .before .before .before .before .before .before .before .before .pre .0, opened (p .place) .level-left), three-ready-3 p w (c .before .before .before .before .before .before .before .advance-expression .ensures) (c .before .before .before .advance-expression2 .ensures))
+
+  conditional-conditional-requires : conditional-lts.Need-conditional-requires (conditional-calls t) (conditional-at t) conditional.Post
+  conditional-conditional-requires c κs = search needs
+
+  conditional-same-length : conditional-lts.Need-same-length (conditional-calls t) (conditional-at t) conditional.Post
+  conditional-same-length c =
+      c .before .before .before .advance-expression3 .kept .1 .1 .0
+      ∙ c .before .before .before .before .before .before .before .advance-expression2 .kept .1 .1 .0
+      ∙ c .before .before .before .before .before .before .before .before .before .before .before .advance-expression .kept .1 .1 .0
+
+  conditional-returns : conditional-lts.Need-returns (conditional-calls t) (conditional-at t) conditional.Post
+  conditional-returns c =
+      λ p. conditional-advances p (c .before .before .before .before .before .before .before .before .before .before .before .before .before .before .before .before .before .args .fresh) (c .before .before .before .before .before .before .before .before .before .before .before .before .before .before .before .before .before .pre .1 .1)
+      (c .before .before .before .before .before .before .before .before .before .before .before .advance-expression .ensures) (c .before .before .before .before .before .before .before .advance-expression2 .ensures) (c .before .before .before .advance-expression3 .ensures)
+      (c .conditional .ensures)
+
+  expression-shared-slice-read-match : expression-lts.Need-shared-slice-read-match (expression-calls t) (expression-at t) expression.Post
+  expression-shared-slice-read-match c = opened (c .before .before .before .before .before .pre .1 .place) .good .starts
+
+  expression-advance-conditional-requires : expression-lts.Need-advance-conditional-requires (expression-calls t) (expression-at t) expression.Post
+  expression-advance-conditional-requires c κs = (omega (arith, c .before .before .before .before .before .before .before .pre .0), (c .before .before .before .before .before .before .before .pre .1, c .before .match .keys1))
+
+  expression-advance-present-requires : expression-lts.Need-advance-present-requires (expression-calls t) (expression-at t) expression.Post
+  expression-advance-present-requires c κs = (omega (arith, c .before .before .before .before .before .before .before .pre .0), (c .before .before .before .before .before .before .before .pre .1, c .before .match .keys2))
+
+  expression-advance-reset-requires : expression-lts.Need-advance-reset-requires (expression-calls t) (expression-at t) expression.Post
+  expression-advance-reset-requires c κs = (omega (arith, c .before .before .before .before .before .before .before .pre .0), (c .before .before .before .before .before .before .before .pre .1, c .before .match .keys3))
+
+  expression-value-expression-requires : expression-lts.Need-value-expression-requires (expression-calls t) (expression-at t) expression.Post
+  expression-value-expression-requires c κs = c .before .before .before .before .before .before .before .before .pre .1 .place
+
+  expression-advance-operation-requires : expression-lts.Need-advance-operation-requires (expression-calls t) (expression-at t) expression.Post
+  expression-advance-operation-requires c κs = (omega (arith, c .before .before .before .before .before .before .before .before .before .pre .0), (c .before .before .before .before .before .before .before .before .before .pre .1, search needs))
+
+  expression-advance-pre-requires : expression-lts.Need-advance-pre-requires (expression-calls t) (expression-at t) expression.Post
+  expression-advance-pre-requires c κs = (omega (arith, c .before .before .before .before .before .before .before .before .before .before .pre .0), (c .before .before .before .before .before .before .before .before .before .before .pre .1, search needs))
+
+  expression-advance-fby-requires : expression-lts.Need-advance-fby-requires (expression-calls t) (expression-at t) expression.Post
+  expression-advance-fby-requires c κs =
+      (omega (arith, c .before .before .before .before .before .before .before .before .before .before .pre .0),
+      (c .before .before .before .before .before .before .before .before .before .before .pre .1, omega (arith, opened (c .before .before .before .before .before .before .before .before .before .before .pre .1 .place) .good .kind)))
+
+  expression-same-length : expression-lts.Need-same-length (expression-calls t) (expression-at t) expression.Post
+  expression-same-length c = c .before .before .advance-conditional .kept .1 .1 .0
+
+  expression-returns : expression-lts.Need-returns (expression-calls t) (expression-at t) expression.Post
+  expression-returns c = c .before .before .advance-conditional .ensures
+
+  expression-same-length-2 : expression-lts.Need-same-length-2 (expression-calls t) (expression-at t) expression.Post
+  expression-same-length-2 c = c .before .before .advance-present .kept .1 .1 .0
+
+  expression-returns-2 : expression-lts.Need-returns-2 (expression-calls t) (expression-at t) expression.Post
+  expression-returns-2 c = c .before .before .advance-present .ensures
+
+  expression-same-length-3 : expression-lts.Need-same-length-3 (expression-calls t) (expression-at t) expression.Post
+  expression-same-length-3 c = c .before .before .advance-reset .kept .1 .1 .0
+
+  expression-returns-3 : expression-lts.Need-returns-3 (expression-calls t) (expression-at t) expression.Post
+  expression-returns-3 c = c .before .before .advance-reset .ensures
+
+  expression-same-length-4 : expression-lts.Need-same-length-4 (expression-calls t) (expression-at t) expression.Post
+  expression-same-length-4 c = search needs
+
+  expression-returns-4 : expression-lts.Need-returns-4 (expression-calls t) (expression-at t) expression.Post
+  expression-returns-4 c = λ p. leaf-advances p (c .before .before .before .before .before .before .before .before .before .args .fresh) (search needs) (c .value-expression .ensures (p .place))
+
+  expression-same-length-5 : expression-lts.Need-same-length-5 (expression-calls t) (expression-at t) expression.Post
+  expression-same-length-5 c = c .before .before .advance-operation .kept .1 .1 .0
+
+  expression-returns-5 : expression-lts.Need-returns-5 (expression-calls t) (expression-at t) expression.Post
+  expression-returns-5 c = c .before .before .advance-operation .ensures
+
+  expression-same-length-6 : expression-lts.Need-same-length-6 (expression-calls t) (expression-at t) expression.Post
+  expression-same-length-6 c = c .before .before .advance-pre .kept .1 .1 .0
+
+  expression-returns-6 : expression-lts.Need-returns-6 (expression-calls t) (expression-at t) expression.Post
+  expression-returns-6 c = c .before .before .advance-pre .ensures
+
+  expression-same-length-7 : expression-lts.Need-same-length-7 (expression-calls t) (expression-at t) expression.Post
+  expression-same-length-7 c = c .before .before .advance-fby .kept .1 .1 .0
+
+  expression-returns-7 : expression-lts.Need-returns-7 (expression-calls t) (expression-at t) expression.Post
+  expression-returns-7 c = c .before .before .advance-fby .ensures
+
+  fby-sub-below : fby-lts.Need-sub-below (fby-calls t) (fby-at t) fby.Post
+  fby-sub-below c = opened (c .before .before .before .before .pre .1 .0 .place) .level-left
+
+  fby-add-first : fby-lts.Need-add-first (fby-calls t) (fby-at t) fby.Post
+  fby-add-first c = omega (arith, opened (c .before .before .before .before .pre .1 .0 .place) .good .starts)
+
+  fby-add-inner : fby-lts.Need-add-inner (fby-calls t) (fby-at t) fby.Post
+  fby-add-inner c = omega (arith, opened (c .before .before .before .before .pre .1 .0 .place) .good .cells)
+
+  fby-cell-at-requires : fby-lts.Need-cell-at-requires (fby-calls t) (fby-at t) fby.Post
+  fby-cell-at-requires c κs = own-cell (c .before .before .before .before .before .pre .1 .0 .place) (omega (arith, c .before .before .before .before .before .pre .1 .1)) .stands .fits
+
+  fby-started-requires : fby-lts.Need-started-requires (fby-calls t) (fby-at t) fby.Post
+  fby-started-requires c κs = search needs
+
+  fby-advance-expression-requires : fby-lts.Need-advance-expression-requires (fby-calls t) (fby-at t) fby.Post
+  fby-advance-expression-requires c κs =
+      let p = c .before .before .before .before .before .before .before .before .pre .1 .0 in
+      let w = fby-view (p .place) (c .before .before .before .before .before .before .before .before .pre .1 .1) in
+      (omega (arith, c .before .before .before .before .before .before .before .before .pre .0, opened (p .place) .level-left), two-ready p w)
+
+  fby-advance-expression-requires-2 : fby-lts.Need-advance-expression-requires-2 (fby-calls t) (fby-at t) fby.Post
+  fby-advance-expression-requires-2 c κs =
+      let p = c .before .before .before .before .before .before .before .before .before .before .before .before .pre .1 .0 in
+      let w = fby-view (p .place) (c .before .before .before .before .before .before .before .before .before .before .before .before .pre .1 .1) in
+      (omega (arith, c .before .before .before .before .before .before .before .before .before .before .before .before .pre .0, opened (p .place) .level-left), two-ready-2 p w (c .before .before .before .advance-expression .ensures))
+
+  fby-datum-in-requires : fby-lts.Need-datum-in-requires (fby-calls t) (fby-at t) fby.Post
+  fby-datum-in-requires c κs = search needs
+
+  fby-put-cell-requires : fby-lts.Need-put-cell-requires (fby-calls t) (fby-at t) fby.Post
+  fby-put-cell-requires c κs =
+      let p = c .before .before .before .before .before .before .before .before .before .before .before .before .before .before .before .before .before .pre .1 .0 in
+      let own = own-cell (p .place) (omega (arith, c .before .before .before .before .before .before .before .before .before .before .before .before .before .before .before .before .before .pre .1 .1)) in
+      omega (arith, own .stands .fits, c .before .before .before .before .advance-expression2 .kept .1 .1 .0, c .before .before .before .before .before .before .before .before .advance-expression .kept .1 .1 .0)
+
+  fby-held-or-requires : fby-lts.Need-held-or-requires (fby-calls t) (fby-at t) fby.Post
+  fby-held-or-requires c κs = search needs
+
+  fby-same-length : fby-lts.Need-same-length (fby-calls t) (fby-at t) fby.Post
+  fby-same-length c =
+      c .before .before .before .put-cell .kept .0
+      ∙ c .before .before .before .before .before .before .before .before .advance-expression2 .kept .1 .1 .0
+      ∙ c .before .before .before .before .before .before .before .before .before .before .before .before .advance-expression .kept .1 .1 .0
+
+  fby-returns : fby-lts.Need-returns (fby-calls t) (fby-at t) fby.Post
+  fby-returns c =
+      λ p. fby-advances p (c .before .before .before .before .before .before .before .before .before .before .before .before .before .before .before .before .before .before .before .before .before .args .fresh) (c .before .before .before .before .before .before .before .before .before .before .before .before .before .before .before .before .before .before .before .before .before .pre .1 .1)
+      (c .before .before .before .before .before .before .before .before .before .before .before .before .before .before .before .cell-at .ensures) (c .before .before .before .before .before .before .before .before .before .before .before .before .before .before .started .ensures)
+      (c .before .before .before .before .before .before .before .before .before .before .before .before .advance-expression .ensures) (c .before .before .before .before .before .before .before .before .advance-expression2 .ensures) (c .before .before .before .before .datum-in .ensures)
+      (c .before .before .before .put-cell .ensures) (c .held-or .ensures)
+
+  operation-shared-slice-read-kind : operation-lts.Need-shared-slice-read-kind (operation-calls t) (operation-at t) operation.Post
+  operation-shared-slice-read-kind c = opened (c .before .before .before .before .before .pre .1 .0 .place) .good .starts
+
+  operation-operand-types-requires : operation-lts.Need-operand-types-requires (operation-calls t) (operation-at t) operation.Post
+  operation-operand-types-requires c κs = opened (c .before .before .before .before .before .pre .1 .0 .place) .good .kind
+
+  operation-sub-below : operation-lts.Need-sub-below (operation-calls t) (operation-at t) operation.Post
+  operation-sub-below c = opened (c .before .before .before .before .before .before .pre .1 .0 .place) .level-left
+
+  operation-add-first : operation-lts.Need-add-first (operation-calls t) (operation-at t) operation.Post
+  operation-add-first c = omega (arith, opened (c .before .before .before .before .before .before .pre .1 .0 .place) .good .starts)
+
+  operation-array-read-advance-expression : operation-lts.Need-array-read-advance-expression (operation-calls t) (operation-at t) operation.Post
+  operation-array-read-advance-expression c = search needs
+
+  operation-advance-expression-requires : operation-lts.Need-advance-expression-requires (operation-calls t) (operation-at t) operation.Post
+  operation-advance-expression-requires c κs =
+      let p = c .before .before .before .before .before .before .before .pre .1 .0 in
+      (omega (arith, c .before .before .before .before .before .before .before .pre .0, opened (p .place) .level-left), operation-ready p (c .before .before .before .before .before .before .before .args .fresh) _ (c .before .operand-types .ensures) (c .before .before .before .before .before .before .before .pre .1 .1 .0) (c .before .before .before .before .before .before .before .pre .1 .1 .1))
+
+  operation-unary-requires : operation-lts.Need-unary-requires (operation-calls t) (operation-at t) operation.Post
+  operation-unary-requires c κs = search needs
+
+  operation-same-length : operation-lts.Need-same-length (operation-calls t) (operation-at t) operation.Post
+  operation-same-length c = c .before .before .before .before .advance-expression .kept .1 .1 .0
+
+  operation-returns : operation-lts.Need-returns (operation-calls t) (operation-at t) operation.Post
+  operation-returns c =
+      λ p. unary-advances p (c .before .before .before .before .before .before .before .before .before .before .before .before .args .fresh) _ (c .before .before .before .before .before .before .operand-types .ensures)
+      (c .before .before .before .before .before .before .before .before .before .before .before .before .pre .1 .1 .0) (c .before .if1 .taken) (c .before .before .before .before .advance-expression .ensures) (c .unary .ensures)
+
+  operation-array-read-advance-expression-2 : operation-lts.Need-array-read-advance-expression-2 (operation-calls t) (operation-at t) operation.Post
+  operation-array-read-advance-expression-2 c = search needs
+
+  operation-advance-expression-requires-2 : operation-lts.Need-advance-expression-requires-2 (operation-calls t) (operation-at t) operation.Post
+  operation-advance-expression-requires-2 c κs =
+      let p = c .before .before .before .before .before .before .before .before .before .before .before .before .pre .1 .0 in
+      let w = binary-view (p .place) _ (c .before .before .before .before .before .before .operand-types .ensures) (c .before .if1 .left) (c .before .before .before .before .before .before .before .before .before .before .before .before .pre .1 .1 .1) in
+      (omega (arith, c .before .before .before .before .before .before .before .before .before .before .before .before .pre .0, opened (p .place) .level-left), two-ready-2 p w (c .before .before .before .before .advance-expression .ensures))
+
+  operation-binary-requires : operation-lts.Need-binary-requires (operation-calls t) (operation-at t) operation.Post
+  operation-binary-requires c κs = search needs
+
+  operation-same-length-2 : operation-lts.Need-same-length-2 (operation-calls t) (operation-at t) operation.Post
+  operation-same-length-2 c =
+      c .before .before .before .advance-expression2 .kept .1 .1 .0
+      ∙ c .before .before .before .before .before .before .before .before .advance-expression .kept .1 .1 .0
+
+  operation-returns-2 : operation-lts.Need-returns-2 (operation-calls t) (operation-at t) operation.Post
+  operation-returns-2 c =
+      λ p. binary-advances p (c .before .before .before .before .before .before .before .before .before .before .before .before .before .before .before .before .args .fresh) _ (c .before .before .before .before .before .before .before .before .before .before .operand-types .ensures)
+      (c .before .before .before .before .before .if1 .left) (c .before .before .before .before .before .before .before .before .before .before .before .before .before .before .before .before .pre .1 .1 .1)
+      (c .before .before .before .before .before .before .before .before .advance-expression .ensures) (c .before .before .before .advance-expression2 .ensures) (c .binary .ensures)
+
+  pre-sub-below : pre-lts.Need-sub-below (pre-calls t) (pre-at t) pre.Post
+  pre-sub-below c = opened (c .before .before .before .before .pre .1 .0 .place) .level-left
+
+  pre-add-first : pre-lts.Need-add-first (pre-calls t) (pre-at t) pre.Post
+  pre-add-first c = omega (arith, opened (c .before .before .before .before .pre .1 .0 .place) .good .starts)
+
+  pre-shared-slice-read-body : pre-lts.Need-shared-slice-read-body (pre-calls t) (pre-at t) pre.Post
+  pre-shared-slice-read-body c = opened (c .before .before .before .before .before .pre .1 .0 .place) .good .starts
+
+  pre-body-requires : pre-lts.Need-body-requires (pre-calls t) (pre-at t) pre.Post
+  pre-body-requires c κs = opened (c .before .before .before .before .before .pre .1 .0 .place) .good .kind
+
+  pre-add-first-2 : pre-lts.Need-add-first-2 (pre-calls t) (pre-at t) pre.Post
+  pre-add-first-2 c = omega (arith, opened (c .before .before .before .before .before .before .pre .1 .0 .place) .good .ends, c .body .ensures)
+
+  pre-add-inner : pre-lts.Need-add-inner (pre-calls t) (pre-at t) pre.Post
+  pre-add-inner c = omega (arith, opened (c .before .before .before .before .before .before .pre .1 .0 .place) .good .cells)
+
+  pre-body-at-requires : pre-lts.Need-body-at-requires (pre-calls t) (pre-at t) pre.Post
+  pre-body-at-requires c κs = whole (c .before .before .before .before .before .before .pre .1 .0 .place)
+
+  pre-datum-of-requires : pre-lts.Need-datum-of-requires (pre-calls t) (pre-at t) pre.Post
+  pre-datum-of-requires c κs = search needs
+
+  pre-cell-at-requires : pre-lts.Need-cell-at-requires (pre-calls t) (pre-at t) pre.Post
+  pre-cell-at-requires c κs = own-cell (c .before .before .before .before .before .before .before .before .before .pre .1 .0 .place) (c .before .before .before .before .before .before .before .before .before .pre .1 .1 .0) .stands .fits
+
+  pre-held-requires : pre-lts.Need-held-requires (pre-calls t) (pre-at t) pre.Post
+  pre-held-requires c κs = search needs
+
+  pre-advance-expression-requires : pre-lts.Need-advance-expression-requires (pre-calls t) (pre-at t) pre.Post
+  pre-advance-expression-requires c κs =
+      let p = c .before .before .before .before .before .before .before .before .before .before .before .before .pre .1 .0 in
+      let w = pre-view (p .place) (c .before .before .before .before .before .before .before .before .before .before .before .before .pre .1 .1 .0) (c .before .before .before .before .before .before .before .before .before .before .before .before .pre .1 .1 .1) in
+      (omega (arith, c .before .before .before .before .before .before .before .before .before .before .before .before .pre .0, opened (p .place) .level-left), rw (c .before .before .before .before .before .before .body .ensures) (one-ready p w))
+
+  pre-datum-in-requires : pre-lts.Need-datum-in-requires (pre-calls t) (pre-at t) pre.Post
+  pre-datum-in-requires c κs = search needs
+
+  pre-put-cell-requires : pre-lts.Need-put-cell-requires (pre-calls t) (pre-at t) pre.Post
+  pre-put-cell-requires c κs =
+      let p = c .before .before .before .before .before .before .before .before .before .before .before .before .before .before .before .before .before .pre .1 .0 in
+      omega (arith, own-cell (p .place) (c .before .before .before .before .before .before .before .before .before .before .before .before .before .before .before .before .before .pre .1 .1 .0) .stands .fits, c .before .before .before .before .advance-expression .kept .1 .1 .0)
+
+  pre-same-length : pre-lts.Need-same-length (pre-calls t) (pre-at t) pre.Post
+  pre-same-length c =
+      c .before .before .put-cell .kept .0
+      ∙ c .before .before .before .before .before .before .before .advance-expression .kept .1 .1 .0
+
+  pre-returns : pre-lts.Need-returns (pre-calls t) (pre-at t) pre.Post
+  pre-returns c =
+      λ p. pre-advances p (c .before .before .before .before .before .before .before .before .before .before .before .before .before .before .before .before .before .before .before .before .args .fresh) (c .before .before .before .before .before .before .before .before .before .before .before .before .before .before .before .before .before .before .before .before .pre .1 .1 .0) (c .before .before .before .before .before .before .before .before .before .before .before .before .before .before .before .before .before .before .before .before .pre .1 .1 .1)
+      (c .before .before .before .before .before .before .before .before .before .before .before .before .before .body-at .ensures) (c .before .before .before .before .before .before .before .before .before .before .before .before .before .before .body .ensures)
+      (c .before .before .before .before .before .before .before .before .before .before .before .before .datum-of .ensures) (c .before .before .before .before .before .before .before .before .before .before .cell-at .ensures) (c .before .before .before .before .before .before .before .before .before .held .ensures)
+      (c .before .before .before .before .before .before .before .advance-expression .ensures) (c .before .before .before .datum-in .ensures) (c .before .before .put-cell .ensures)
+
+  present-sub-below : present-lts.Need-sub-below (present-calls t) (present-at t) present.Post
+  present-sub-below c = opened (c .before .before .before .before .pre .1 .0 .place) .level-left
+
+  present-add-first : present-lts.Need-add-first (present-calls t) (present-at t) present.Post
+  present-add-first c = omega (arith, opened (c .before .before .before .before .pre .1 .0 .place) .good .starts)
+
+  present-advance-expression-requires : present-lts.Need-advance-expression-requires (present-calls t) (present-at t) present.Post
+  present-advance-expression-requires c κs =
+      let p = c .before .before .before .before .before .pre .1 .0 in
+      let w = present-view (p .place) (c .before .before .before .before .before .pre .1 .1) in
+      (omega (arith, c .before .before .before .before .before .pre .0, opened (p .place) .level-left), three-ready p w)
+
+  present-is-true-requires : present-lts.Need-is-true-requires (present-calls t) (present-at t) present.Post
+  present-is-true-requires c κs = search needs
+
+  present-advance-expression-requires-2 : present-lts.Need-advance-expression-requires-2 (present-calls t) (present-at t) present.Post
+  present-advance-expression-requires-2 c κs =
+      let p = c .before .before .before .before .before .before .before .before .before .before .before .pre .1 .0 in
+      let w = present-view (p .place) (c .before .before .before .before .before .before .before .before .before .before .before .pre .1 .1) in
+      (omega (arith, c .before .before .before .before .before .before .before .before .before .before .before .pre .0, opened (p .place) .level-left), three-ready-2 p w (c .before .before .before .before .before .advance-expression .ensures))
+
+  present-rest-requires : present-lts.Need-rest-requires (present-calls t) (present-at t) present.Post
+  present-rest-requires c κs =
+      let p = c .before .before .before .before .before .before .before .before .before .before .before .before .before .before .before .pre .1 .0 in
+      let w = present-view (p .place) (c .before .before .before .before .before .before .before .before .before .before .before .before .before .before .before .pre .1 .1) in
+      three-arm-3 p w (c .before .before .before .before .before .before .before .before .before .advance-expression .ensures) (c .before .before .before .advance-expression2 .ensures)
+
+  present-same-length : present-lts.Need-same-length (present-calls t) (present-at t) present.Post
+  present-same-length c =
+      c .before .before .rest .kept .1 .1 .1 .1 .0
+      ∙ c .before .before .before .before .before .before .advance-expression2 .kept .1 .1 .0
+      ∙ c .before .before .before .before .before .before .before .before .before .before .before .before .advance-expression .kept .1 .1 .0
+
+  present-returns : present-lts.Need-returns (present-calls t) (present-at t) present.Post
+  present-returns c =
+      λ p. present-advances-first p (c .before .before .before .before .before .before .before .before .before .before .before .before .before .before .before .before .before .before .args .fresh) (c .before .before .before .before .before .before .before .before .before .before .before .before .before .before .before .before .before .before .pre .1 .1)
+      (c .before .before .before .before .before .before .before .before .before .before .before .before .advance-expression .ensures) (sym (c .before .before .before .before .before .before .before .before .before .is-true .ensures) ∙ c .before .before .before .before .before .before .before .before .if1 .taken)
+      (c .before .before .before .before .before .before .advance-expression2 .ensures) (c .before .before .rest .ensures)
+
+  present-rest-requires-2 : present-lts.Need-rest-requires-2 (present-calls t) (present-at t) present.Post
+  present-rest-requires-2 c κs =
+      let p = c .before .before .before .before .before .before .before .before .before .before .before .pre .1 .0 in
+      let w = present-view (p .place) (c .before .before .before .before .before .before .before .before .before .before .before .pre .1 .1) in
+      three-arm-2 p w (c .before .before .before .before .before .advance-expression .ensures)
+
+  present-advance-expression-requires-3 : present-lts.Need-advance-expression-requires-3 (present-calls t) (present-at t) present.Post
+  present-advance-expression-requires-3 c κs =
+      let p = c .before .before .before .before .before .before .before .before .before .before .before .before .before .before .before .pre .1 .0 in
+      let w = present-view (p .place) (c .before .before .before .before .before .before .before .before .before .before .before .before .before .before .before .pre .1 .1) in
+      (omega (arith, c .before .before .before .before .before .before .before .before .before .before .before .before .before .before .before .pre .0, opened (p .place) .level-left), rest-ready-3 p w (c .before .before .before .before .before .before .before .before .before .advance-expression .ensures) (c .before .before .before .rest2 .ensures))
+
+  present-under-requires : present-lts.Need-under-requires (present-calls t) (present-at t) present.Post
+  present-under-requires c κs = search needs
+
+  present-same-length-2 : present-lts.Need-same-length-2 (present-calls t) (present-at t) present.Post
+  present-same-length-2 c =
+      c .before .before .before .advance-expression3 .kept .1 .1 .0
+      ∙ c .before .before .before .before .before .before .before .rest2 .kept .1 .1 .1 .1 .0
+      ∙ c .before .before .before .before .before .before .before .before .before .before .before .before .before .advance-expression .kept .1 .1 .0
+
+  present-returns-2 : present-lts.Need-returns-2 (present-calls t) (present-at t) present.Post
+  present-returns-2 c =
+      λ p. present-advances-second p (c .before .before .before .before .before .before .before .before .before .before .before .before .before .before .before .before .before .before .before .args .fresh) (c .before .before .before .before .before .before .before .before .before .before .before .before .before .before .before .before .before .before .before .pre .1 .1)
+      (c .before .before .before .before .before .before .before .before .before .before .before .before .before .advance-expression .ensures) (sym (c .before .before .before .before .before .before .before .before .before .before .is-true .ensures) ∙ c .before .before .before .before .before .before .before .before .before .if1 .left)
+      (c .before .before .before .before .before .before .before .rest2 .ensures) (c .before .before .before .advance-expression3 .ensures) (c .under .ensures)
+
+  reset-sub-below : reset-lts.Need-sub-below (reset-calls t) (reset-at t) reset.Post
+  reset-sub-below c = opened (c .before .before .before .before .pre .1 .0 .place) .level-left
+
+  reset-add-first : reset-lts.Need-add-first (reset-calls t) (reset-at t) reset.Post
+  reset-add-first c = omega (arith, opened (c .before .before .before .before .pre .1 .0 .place) .good .starts)
+
+  reset-advance-expression-requires : reset-lts.Need-advance-expression-requires (reset-calls t) (reset-at t) reset.Post
+  reset-advance-expression-requires c κs =
+      let p = c .before .before .before .before .before .pre .1 .0 in
+      let w = reset-view (p .place) (c .before .before .before .before .before .pre .1 .1) in
+      (omega (arith, c .before .before .before .before .before .pre .0, opened (p .place) .level-left), two-ready p w)
+
+  reset-is-true-requires : reset-lts.Need-is-true-requires (reset-calls t) (reset-at t) reset.Post
+  reset-is-true-requires c κs = search needs
+
+  reset-advance-expression-requires-2 : reset-lts.Need-advance-expression-requires-2 (reset-calls t) (reset-at t) reset.Post
+  reset-advance-expression-requires-2 c κs =
+      let p = c .before .before .before .before .before .before .before .before .before .before .pre .1 .0 in
+      let w = reset-view (p .place) (c .before .before .before .before .before .before .before .before .before .before .pre .1 .1) in
+      (omega (arith, c .before .before .before .before .before .before .before .before .before .before .pre .0, opened (p .place) .level-left), two-ready-2 p w (c .before .before .before .before .advance-expression .ensures))
+
+  reset-under-requires : reset-lts.Need-under-requires (reset-calls t) (reset-at t) reset.Post
+  reset-under-requires c κs = search needs
+
+  reset-same-length : reset-lts.Need-same-length (reset-calls t) (reset-at t) reset.Post
+  reset-same-length c =
+      c .before .before .before .advance-expression2 .kept .1 .1 .0
+      ∙ c .before .before .before .before .before .before .before .before .advance-expression .kept .1 .1 .0
+
+  reset-returns : reset-lts.Need-returns (reset-calls t) (reset-at t) reset.Post
+  reset-returns c =
+      λ p. reset-advances p (c .before .before .before .before .before .before .before .before .before .before .before .before .before .before .args .fresh) (c .before .before .before .before .before .before .before .before .before .before .before .before .before .before .pre .1 .1)
+      (c .before .before .before .before .before .before .before .before .advance-expression .ensures) (c .before .before .before .before .before .is-true .ensures) (c .before .before .before .advance-expression2 .ensures) (c .under .ensures)
+
+pub +advance-conditional+advance-expression+advance-fby+advance-operation+advance-pre+advance-present+advance-reset-spec : {M : Type 1} → statement M
++advance-conditional+advance-expression+advance-fby+advance-operation+advance-pre+advance-present+advance-reset-spec =
+    close μ-conditional μ-expression μ-fby μ-operation μ-pre μ-present μ-reset
+    (λ t. conditional-lts.spec (conditional-calls t) (conditional-at t) conditional.Post
+    (conditional-sub-below t) (conditional-add-first t) (conditional-advance-expression-requires t)
+    (conditional-advance-expression-requires-2 t) (conditional-advance-expression-requires-3 t)
+    (conditional-conditional-requires t) (conditional-same-length t) (conditional-returns t))
+    (λ t. expression-lts.spec (expression-calls t) (expression-at t) expression.Post
+    (expression-shared-slice-read-match t) (expression-advance-conditional-requires t) (expression-advance-present-requires t)
+    (expression-advance-reset-requires t) (expression-value-expression-requires t) (expression-advance-operation-requires t)
+    (expression-advance-pre-requires t) (expression-advance-fby-requires t) (expression-same-length t) (expression-returns t)
+    (expression-same-length-2 t) (expression-returns-2 t) (expression-same-length-3 t) (expression-returns-3 t)
+    (expression-same-length-4 t) (expression-returns-4 t) (expression-same-length-5 t) (expression-returns-5 t)
+    (expression-same-length-6 t) (expression-returns-6 t) (expression-same-length-7 t) (expression-returns-7 t))
+    (λ t. fby-lts.spec (fby-calls t) (fby-at t) fby.Post
+    (fby-sub-below t) (fby-add-first t) (fby-add-inner t) (fby-cell-at-requires t) (fby-started-requires t)
+    (fby-advance-expression-requires t) (fby-advance-expression-requires-2 t) (fby-datum-in-requires t)
+    (fby-put-cell-requires t) (fby-held-or-requires t) (fby-same-length t) (fby-returns t))
+    (λ t. operation-lts.spec (operation-calls t) (operation-at t) operation.Post
+    (operation-shared-slice-read-kind t) (operation-operand-types-requires t) (operation-sub-below t) (operation-add-first t)
+    (operation-array-read-advance-expression t) (operation-advance-expression-requires t) (operation-unary-requires t)
+    (operation-same-length t) (operation-returns t) (operation-array-read-advance-expression-2 t)
+    (operation-advance-expression-requires-2 t) (operation-binary-requires t) (operation-same-length-2 t)
+    (operation-returns-2 t))
+    (λ t. pre-lts.spec (pre-calls t) (pre-at t) pre.Post
+    (pre-sub-below t) (pre-add-first t) (pre-shared-slice-read-body t) (pre-body-requires t) (pre-add-first-2 t)
+    (pre-add-inner t) (pre-body-at-requires t) (pre-datum-of-requires t) (pre-cell-at-requires t) (pre-held-requires t)
+    (pre-advance-expression-requires t) (pre-datum-in-requires t) (pre-put-cell-requires t) (pre-same-length t) (pre-returns t))
+    (λ t. present-lts.spec (present-calls t) (present-at t) present.Post
+    (present-sub-below t) (present-add-first t) (present-advance-expression-requires t) (present-is-true-requires t)
+    (present-advance-expression-requires-2 t) (present-rest-requires t) (present-same-length t) (present-returns t)
+    (present-rest-requires-2 t) (present-advance-expression-requires-3 t) (present-under-requires t) (present-same-length-2 t)
+    (present-returns-2 t))
+    (λ t. reset-lts.spec (reset-calls t) (reset-at t) reset.Post
+    (reset-sub-below t) (reset-add-first t) (reset-advance-expression-requires t) (reset-is-true-requires t)
+    (reset-advance-expression-requires-2 t) (reset-under-requires t) (reset-same-length t) (reset-returns t))

@@ -35,10 +35,10 @@ module _ {sheet row memory words : List ℕ} {bits level asked at cell : ℕ}
   abbrev kind : ℕ
   kind = getD sheet at 0
 
-  pub unary-answer : (types : List ℕ) → take (countOf (kind)) types ≡ operandsOf (kind) asked
+  pub unary-answer : (types : List ℕ) → take (countOf kind) types ≡ operandsOf kind asked
       → 4 ≤ kind → kind < 6
       → {a : Valued} → Answers p (getD types 0 0) (at + 1) cell fresh a
-      → {v : Value} → v ≡ unaryValue (unaryOf (kind)) (a .value)
+      → {v : Value} → v ≡ unaryValue (unaryOf kind) (a .value)
       → record { value = v; next = a .next; cell = a .cell } ≡ valuedOf p fresh
   unary-answer types e low high h is =
       let w = unary-view p types e low high in
@@ -46,10 +46,10 @@ module _ {sheet row memory words : List ℕ} {bits level asked at cell : ℕ}
       let ends = by-value p fresh (w .first) ea in
       finished p fresh (w .ends) (is ∙ rw ea (sym (unary-value p fresh w))) (ends .next) (ends .count)
 
-  pub binary-answer : (types : List ℕ) → take (countOf (kind)) types ≡ operandsOf (kind) asked
+  pub binary-answer : (types : List ℕ) → take (countOf kind) types ≡ operandsOf kind asked
       → 6 ≤ kind → kind < 12
       → {a b : Valued} → Answers p (getD types 0 0) (at + 1) cell fresh a → Answers p (getD types 1 0) (a .next) (a .cell) fresh b
-      → {v : Value} → v ≡ binaryValue (binaryOf (kind)) (a .value) (b .value)
+      → {v : Value} → v ≡ binaryValue (binaryOf kind) (a .value) (b .value)
       → record { value = v; next = b .next; cell = b .cell } ≡ valuedOf p fresh
   binary-answer types e low high ha hb is =
       let w = binary-view p types e low high in

@@ -1,4 +1,5 @@
 -- What the proofs of several functions use.
+pub mod Rows
 pub mod Views
 pub mod Values
 pub mod Answers

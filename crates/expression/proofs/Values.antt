@@ -1,33 +1,24 @@
 -- The value of a placement by the values of its operands, and what the code's steps make of them.
-use Prim.Native.Nat.{ℕ, suc, _+_, _-_, _≤_, _<_}
-use mathlib.Core.Path.{_≡_, refl, sym, ap, subst, _∙_}
+use Prim.Native.Nat.{ℕ, _+_, _-_}
+use mathlib.Core.Path.{_≡_, refl, ap, subst, _∙_}
 use mathlib.Core.Bool.{Bool, true, false, _||_, cond}
 use mathlib.Core.List.{List}
 use native.Mathlib.Numerals.{add-one}
 use native.Mathlib.Omega.{arith}
-use lib.ListN.{getD, take}
-use Rattle.wires.specs.Sets.{member}
-use Rattle.sheet.specs.Data.{ValueType, typeOfByte, datumOf}
-use Rattle.sheet.specs.Expressions.{Expression, Unary, Binary, Choice, unary, binary, choose, reset, pre, fby, present, conditional, cellCount}
-use Rattle.sheet.specs.Memory.{readCell}
-use Rattle.sheet.specs.Readings.{bodyAt}
-use Rattle.sheet.specs.Rows.{entryAt}
-use Rattle.sheet.specs.Kinds.{bodyOf, countOf, operandsOf}
+use Rattle.sheet.specs.Data.{ValueType}
+use Rattle.sheet.specs.Expressions.{Expression, Unary, Binary, Choice, unary, binary, choose, reset, fby, present}
 use Rattle.sheet_walk.specs.Skips.{Readable}
 use Rattle.sheet.specs.declared.Datum.{Datum}
-use Rattle.sheet.specs.declared.Cell.{Cell}
-use Rattle.sheet.specs.declared.Cell.the-variants.{NotStarted, Started}
+use Rattle.sheet.specs.declared.Cell.the-variants.{NotStarted}
 use Rattle.sheet_walk.specs.declared.skip.Skipped.{Skipped}
 use Rattle.kernel.specs.Values.{truth, whenKnown, isTrue, isUnknown}
-use Rattle.kernel.specs.Operations.{unaryOf, binaryOf, unaryValue, binaryValue}
-use Rattle.kernel.specs.Instant.{value, cellAt, chosen, heldOr, knownOr}
+use Rattle.kernel.specs.Operations.{unaryValue, binaryValue}
+use Rattle.kernel.specs.Instant.{value, cellAt, chosen, knownOr}
 use Rattle.kernel.specs.declared.Value.{Value}
 use Rattle.kernel.specs.declared.Value.the-variants.{Unknown, Known}
 use Rattle.expression.specs.declared.Valued.{Valued}
-use Rattle.expression.specs.Places.{Placement, valueOfWord, valuedOf}
+use Rattle.expression.specs.Places.{Placement, valuedOf}
 use Rattle.expression.proofs.Views.{Operand, placed, readable, operand-counted, Alone, One, Two, Three}
-use Rattle.expression.proofs.Views.{unary-view, binary-view, conditional-view, present-view, reset-view, fby-view, pre-view}
-use Rattle.expression.proofs.Views.{constant-view, wire-view, input-view, own-cell}
 
 -- by whether a condition is unknown and whether it holds
 when-unknown : (v : Value) (f : Datum → Value) → isUnknown v ≡ true → whenKnown v f ≡ Unknown

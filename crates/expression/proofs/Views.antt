@@ -1,7 +1,7 @@
 -- Views of a placement: its own bytes and cells, the placements of its operands and its tree; first by the number of operands,
 -- then by the kind.
-use Prim.Native.Nat.{ℕ, zero, suc, _+_, _-_, _*_, _≤_, _<_}
-use mathlib.Core.Path.{_≡_, refl, sym, ap, _∙_}
+use Prim.Native.Nat.{ℕ, zero, suc, _+_, _-_, _≤_, _<_}
+use mathlib.Core.Path.{_≡_, refl, ap, _∙_}
 use mathlib.Core.Bool.{Bool, true, false}
 use mathlib.Core.List.{List, [], _∷_, _++_}
 use native.Mathlib.Numerals.{sub-one}
@@ -9,19 +9,20 @@ use native.Mathlib.Omega.{arith}
 use lib.ListN.{length, getD, take}
 use lib.Dec.{ltb}
 use borrow.Author.Tests.{ltb-true, ltb-false}
-use Rattle.sheet.specs.Data.{ValueType, boolean, number, typeOfByte, typeOf, datumOf}
+use Rattle.sheet.specs.Data.{number, typeOfByte, datumOf}
 use Rattle.sheet.specs.Expressions.{Expression, constant, wire, input, unary, binary, choose, reset, pre, fby, conditional, present}
-use Rattle.sheet.specs.Expressions.{CellForm, preCell, fbyCell, cellForms, cellCount}
-use Rattle.sheet.specs.Kinds.{Meaning, operand, bodyOf, cellsOf, countOf, operandsOf, foundOf, meaningOf}
+use Rattle.sheet.specs.Expressions.{CellForm, cellForms, cellCount}
+use Rattle.sheet.specs.Kinds.{operand, bodyOf, cellsOf, countOf, operandsOf, meaningOf}
 use Rattle.sheet.specs.Readings.{got, readEach, readExpression, bodyAt, Whole}
 use Rattle.sheet.specs.Sheets.{formsOf}
 use Rattle.sheet_walk.specs.Skips.{Readable}
 use Rattle.sheet.specs.Laws.Readings.{OwnGood, ExpressionRead, expression-view, no-level, run-view, expression-extent, run-extent}
-use Rattle.sheet.specs.Laws.Readings.{forms-length, operands-counted, ownForms, forms-of-kind, every-kind, Rows, _▸_, end, row-at}
+use Rattle.sheet.specs.Laws.Readings.{forms-length, operands-counted, ownForms, forms-of-kind}
 use Rattle.sheet.specs.Memory.{readCell}
 use Rattle.sheet.specs.declared.Cell.{Cell}
 use Rattle.kernel.specs.Instant.{cellAt}
 use Rattle.kernel.specs.Operations.{unaryOf, binaryOf}
+use Rattle.expression.proofs.Rows.{own-length, unary-row, binary-row, pre-row, constant-row, cell-row, no-type, one-type, two-types}
 use Rattle.expression.specs.Places.{CellStands, CellsStand, none, more, Placement}
 
 -- the cells of two runs of forms stand one run behind the other
@@ -36,84 +37,6 @@ cells-split {k = k} (f ∷ fs) gs (more c s) =
 first-stands : {memory : List ℕ} {cells : List Cell} {k : ℕ} {f : CellForm} {fs : List CellForm} → CellsStand memory cells k (f ∷ fs)
     → CellStands memory k f (cellAt cells k)
 first-stands (more c s) = c
-
-own-length : (type : ValueType) (body k : ℕ) → k < 18 → length (ownForms k type body) ≡ cellsOf k
-own-length type body = every-kind (λ k. length (ownForms k type body) ≡ cellsOf k)
-    (refl ▸ refl ▸ refl ▸ refl ▸ refl ▸ refl ▸ refl ▸ refl ▸ refl ▸ refl ▸ refl ▸ refl ▸ refl ▸ refl ▸ refl ▸ refl ▸ refl ▸ refl ▸ end)
-
--- what is shown of some rows, one behind the other, holds of every kind between them
-among : (P : ℕ → Type 0) {low n : ℕ} → Rows P low n → (k : ℕ) → low ≤ k → k < low + n → P k
-among P {low} rows k above below =
-    let e : low + (k - low) ≡ k = omega arith in
-    rw e at (row-at P rows (k - low) (omega arith))
-
--- the row of kind k, without the types
-abbrev rowOf : ℕ → ℕ × ℕ × ℕ × Meaning
-rowOf k = (bodyOf k, cellsOf k, countOf k, meaningOf k)
-
-abbrev UnaryRow : ℕ → Type 0
-UnaryRow k = rowOf k ≡ (0, 0, 1, λ t b es. unary (unaryOf k) (operand es 0))
-
-unary-row : (k : ℕ) → 4 ≤ k → k < 6 → UnaryRow k
-unfolding meaningOf
-unary-row = among UnaryRow (refl ▸ refl ▸ end)
-
-abbrev BinaryRow : ℕ → Type 0
-BinaryRow k = rowOf k ≡ (0, 0, 2, λ t b es. binary (binaryOf k) (operand es 0) (operand es 1))
-
-binary-row : (k : ℕ) → 6 ≤ k → k < 12 → BinaryRow k
-unfolding meaningOf
-binary-row = among BinaryRow (refl ▸ refl ▸ refl ▸ refl ▸ refl ▸ refl ▸ end)
-
--- a pre has the type of its operand
-record PreRow (k : ℕ) : Type 0 where
-  row : rowOf k ≡ (bodyOf k, 1, 1, λ t b es. pre (datumOf t b) (operand es 0))
-  types : (inputs wires : List ℕ) (t n : ℕ) → foundOf inputs wires t k n ≡ t → operandsOf k t ≡ t ∷ []
-
-pre-row : (k : ℕ) → 15 ≤ k → k < 17 → PreRow k
-unfolding meaningOf operandsOf
-pre-row = among PreRow (
-    record { row = refl; types = λ is ws t n e. ap (λ u. u ∷ []) e }
-    ▸ record { row = refl; types = λ is ws t n e. ap (λ u. u ∷ []) e }
-    ▸ end)
-
-abbrev ConstantRow : ℕ → Type 0
-ConstantRow k = rowOf k ≡ (bodyOf k, 0, 0, λ t b es. constant (datumOf t b))
-
-constant-row : (k : ℕ) → k < 2 → ConstantRow k
-unfolding meaningOf
-constant-row k below = among ConstantRow {low = 0} (refl ▸ refl ▸ end) k (omega arith) (omega arith)
-
--- the form of the cell that a kind owns
-record CellRow (type : ValueType) (body k : ℕ) : Type 0 where
-  form : CellForm
-  owns : ownForms k type body ≡ form ∷ []
-  typed : form .type ≡ type
-
-datum-typed : (type : ValueType) (body : ℕ) → typeOf (datumOf type body) ≡ type
-datum-typed boolean body = refl
-datum-typed number body = refl
-
-cell-row : (type : ValueType) (body k : ℕ) → 15 ≤ k → k < 18 → CellRow type body k
-cell-row type body = among (CellRow type body) (
-    record { form = preCell (datumOf type body); owns = refl; typed = datum-typed type body }
-    ▸ record { form = preCell (datumOf type body); owns = refl; typed = datum-typed type body }
-    ▸ record { form = fbyCell type; owns = refl; typed = refl }
-    ▸ end)
-
--- the types that the code has for the operands, of which the first are the table's
-no-type : (ts : List ℕ) → length ts ≡ 0 → ts ≡ []
-no-type [] e = refl
-no-type (t ∷ ts) e = absurd (omega arith)
-
-one-type : (xs ts : List ℕ) → take 1 xs ≡ ts → length ts ≡ 1 → ts ≡ getD xs 0 0 ∷ []
-one-type [] ts e n = absurd (omega (arith, ap length e))
-one-type (x ∷ xs) ts e n = sym e
-
-two-types : (xs ts : List ℕ) → take 2 xs ≡ ts → length ts ≡ 2 → ts ≡ getD xs 0 0 ∷ getD xs 1 0 ∷ []
-two-types [] ts e n = absurd (omega (arith, ap length e))
-two-types (x ∷ []) ts e n = absurd (omega (arith, ap length e))
-two-types (x ∷ y ∷ xs) ts e n = sym e
 
 -- an expression that reads has a level for itself
 level-view : (inputs wires s : List ℕ) (level t at c : ℕ) {e : Expression} {n k : ℕ}
@@ -199,7 +122,7 @@ module _ {sheet row memory words : List ℕ} {bits level asked at cell : ℕ}
 
   done : (a k : ℕ) {es : List Expression} → Run [] a k es → Done a k es
   unfolding readEach
-  done a k {es} r =
+  done a k r =
       let e = r .reads in
       record { trees = cc e; next = cc e; count = cc e }
 
@@ -232,7 +155,7 @@ module _ {sheet row memory words : List ℕ} {bits level asked at cell : ℕ}
   pub whole : Whole sheet at
   whole = record { kind = opened .good .kind; ends = opened .good .ends }
 
-  -- no operand, or one, two or three, from a place and a number of cells on; the tree by what f makes of theirs
+  -- no operand, or one, two or three, from a place and a number of cells on; the tree is what f makes of theirs
   pub record Alone (a k : ℕ) (e : Expression) : Type 0 where
     pub tree : p .tree ≡ e
     pub next : p .next ≡ a
@@ -349,25 +272,21 @@ module _ {sheet row memory words : List ℕ} {bits level asked at cell : ℕ}
       by true t = unary-view types e low (ltb-true _ _ t) .first
       by false t = binary-view types e (ltb-false _ _ t) high .first
 
-  module _ (is : kind ≡ 12) where
-    pub conditional-view : Three 0 asked asked (at + 1) cell (choose conditional)
-    unfolding meaningOf operandsOf
-    conditional-view = three (record { types = rw is; place = rw is (omega arith); cells = rw is (omega arith) }) (λ x y z. rw is)
+  pub conditional-view : kind ≡ 12 → Three 0 asked asked (at + 1) cell (choose conditional)
+  unfolding meaningOf operandsOf
+  conditional-view is = three (record { types = rw is; place = rw is (omega arith); cells = rw is (omega arith) }) (λ x y z. rw is)
 
-  module _ (is : kind ≡ 13) where
-    pub present-view : Three 0 asked asked (at + 1) cell (choose present)
-    unfolding meaningOf operandsOf
-    present-view = three (record { types = rw is; place = rw is (omega arith); cells = rw is (omega arith) }) (λ x y z. rw is)
+  pub present-view : kind ≡ 13 → Three 0 asked asked (at + 1) cell (choose present)
+  unfolding meaningOf operandsOf
+  present-view is = three (record { types = rw is; place = rw is (omega arith); cells = rw is (omega arith) }) (λ x y z. rw is)
 
-  module _ (is : kind ≡ 14) where
-    pub reset-view : Two 0 asked (at + 1) cell reset
-    unfolding meaningOf operandsOf
-    reset-view = two (record { types = rw is; place = rw is (omega arith); cells = rw is (omega arith) }) (λ x y. rw is)
+  pub reset-view : kind ≡ 14 → Two 0 asked (at + 1) cell reset
+  unfolding meaningOf operandsOf
+  reset-view is = two (record { types = rw is; place = rw is (omega arith); cells = rw is (omega arith) }) (λ x y. rw is)
 
-  module _ (is : kind ≡ 17) where
-    pub fby-view : Two asked asked (at + 1) (cell + 1) (fby (typeOfByte asked))
-    unfolding meaningOf operandsOf
-    fby-view = two (record { types = rw is; place = rw is (omega arith); cells = rw is (omega arith) }) (λ x y. rw is)
+  pub fby-view : kind ≡ 17 → Two asked asked (at + 1) (cell + 1) (fby (typeOfByte asked))
+  unfolding meaningOf operandsOf
+  fby-view is = two (record { types = rw is; place = rw is (omega arith); cells = rw is (omega arith) }) (λ x y. rw is)
 
   pub pre-view : 15 ≤ kind → kind < 17 → One asked (at + 1 + bodyOf kind) (cell + 1) (pre (datumOf (typeOfByte asked) (bodyAt sheet at)))
   pre-view low high =
@@ -387,7 +306,7 @@ module _ {sheet row memory words : List ℕ} {bits level asked at cell : ℕ}
         cells = omega (arith, ap (λ x. x .1) r);
       }) (ap (λ r. r .3 (typeOfByte asked) (bodyAt sheet at) []) r)
 
-  -- a wire, which has the type asked
+  -- a wire or an input by its number, of the type asked
   pub record Named (types : List ℕ) (e : Expression) : Type 0 where
     pub leaf : Alone (at + 1 + bodyOf kind) cell e
     pub within : bodyAt sheet at < length types

@@ -1,4 +1,4 @@
-// The value of an expression over the bytes of a sheet, and what it stores in a memory.
+// The value of an expression over the bytes of a sheet.
 // Rests on `sheet` for the format, on `kernel` for values and on `wires` for the set of known wires.
 pub mod value;
 

@@ -3,12 +3,12 @@
 use Prim.Native.Nat.{ℕ, zero, suc, _+_, _/_, _%_, _≤_, _<_}
 use mathlib.Core.Path.{_≡_, refl, ap, _∙_}
 use mathlib.Core.Bool.{true}
-use mathlib.Core.List.{List, [], _∷_, _++_}
+use mathlib.Core.List.{List, [], _∷_, _++_, append-nil}
 use native.Mathlib.Omega.{arith}
 use native.Mathlib.Nat.{add-zero, add-suc, suc-add}
 use lib.IntN.{ℤ, pos, negsuc}
-use lib.ListN.{length, getD, set, length-set}
-use lib.Seq.{sets, getD-set-same, getD-set-other}
+use lib.ListN.{length, getD, set, drop, length-set, drop-of-length-le}
+use lib.Seq.{sets, sets-eq, getD-set-same, getD-set-other}
 use mir.Syntax.{w32}
 use mir.Val.{SFits}
 use mir.Facts.{sfits-toZ}
@@ -64,6 +64,12 @@ sets-in (a ∷ vs) l i zero h g =
     rw add-zero (sets-below vs (set l i a) (suc i) i (omega arith) ∙ getD-set-same l i a 0 (omega arith))
 sets-in (a ∷ vs) l i (suc j) h g =
     rw (add-suc, ← suc-add) (sets-in vs (set l i a) (suc i) j (simp length-set (omega arith)) (omega arith))
+
+-- a splice of the whole list
+pub sets-all : (vs l : List ℕ) → length vs ≡ length l → sets l 0 vs ≡ vs
+sets-all vs l e =
+    let none : drop (0 + length vs) l ≡ [] = drop-of-length-le l {i = 0 + length vs} (omega arith) in
+    sets-eq vs l 0 (omega arith) ∙ rw none (append-nil vs)
 
 -- a word that was stored is read back
 pub word-back : (l : List ℕ) (i x : ℕ) → i + 4 ≤ length l → wordAt (sets l i (wordBytes x)) i ≡ x

@@ -8,7 +8,7 @@ use native.Mathlib.Omega.{arith}
 use lib.ListN.{length, getD, length-replicate}
 use borrow.Author.Count.{below-more}
 use Rattle.wires.specs.Sets.{member, tally}
-use Rattle.wires.specs.Laws.{tally-beyond}
+use Rattle.wires.specs.Laws.{tally-beyond, tally-front}
 use Rattle.sheet.specs.Laws.Readings.{run-extent}
 use Rattle.kernel.specs.Order.{_⊑*_, valueAt, knownCount}
 use Rattle.kernel.specs.Order as Order
@@ -23,12 +23,7 @@ use Rattle.kernel.specs.declared.Value.{Value}
 use Rattle.kernel.specs.declared.Value.the-variants.{Unknown}
 use Rattle.rounds.specs.Running.{Held, unheld, held, Holds, Running, roundOf, Before}
 
--- the count from the front
-tally-front : (f : ℕ → Bool) (n : ℕ) → tally f (suc n) ≡ cond (f 0) 1 0 + tally (λ k. f (suc k)) n
-unfolding tally
-tally-front f zero = refl
-tally-front f (suc n) = omega (arith, tally-front f n)
-
+-- one for a wire in the set
 held-tally : {b : Bool} {word : ℕ} {v : Value} → Held b word v → cond b 1 0 ≡ Order.tally v
 held-tally unheld = refl
 held-tally (held e) = refl

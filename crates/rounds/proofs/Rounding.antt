@@ -1,15 +1,14 @@
 -- How a round goes on: the wires that were passed have their new values, and the words still hold the old ones.
-use Prim.Native.Nat.{ℕ, zero, suc, _+_, _≤_, _<_}
+use Prim.Native.Nat.{ℕ, suc, _+_, _≤_, _<_}
 use mathlib.Core.Path.{_≡_, refl, sym, ap, _∙_}
 use mathlib.Core.Logic.{_≢_}
 use mathlib.Core.Bool.{Bool, true, false, _||_}
-use mathlib.Core.Option.{some}
-use mathlib.Core.List.{List, [], _∷_, map}
+use mathlib.Core.List.{List}
 use native.Mathlib.Nat.{zero-add, add-zero}
 use native.Mathlib.Numerals.{add-one}
 use native.Mathlib.Omega.{arith}
 use lib.Dec.{eqb}
-use lib.ListN.{length, getD, getElem?, drop, set, length-set}
+use lib.ListN.{length, getD, drop, set, length-set}
 use lib.Seq.{drop-cons, getD-set-same, getD-set-other}
 use borrow.Author.Count.{below-more}
 use borrow.Author.Tests.{eq-eqb, ne-eqb, eqb-true, eqb-false}
@@ -19,6 +18,7 @@ use Rattle.sheet.specs.Expressions.{Expression, cellForms}
 use Rattle.sheet.specs.Readings.{got, readEach, readExpression}
 use Rattle.sheet.specs.Sheets.{formsOf}
 use Rattle.sheet.specs.Laws.Memory.{word-back}
+use Rattle.sheet.specs.Laws.Typing.{type-of-named}
 use Rattle.sheet.specs.Laws.Readings.{run-view, run-extent, expression-extent, forms-length}
 use Rattle.kernel.specs.Values.{Fits, known-fits}
 use Rattle.kernel.specs.Order.{_⊑_, same, valueAt}
@@ -37,11 +37,6 @@ use Rattle.rounds.specs.Running.{Held, unheld, held, Holds, roundOf, Bef
 stands-for : {b : Bool} {word : ℕ} {v : Value} {t : ValueType} → Held b word v → Fits t v → v ≡ valueOfWord b t word
 stands-for unheld f = refl
 stands-for {t = t} (held {d = d} e) (known-fits i) = ap Known (sym (word-back t d i) ∙ ap (datumOf t) (sym e))
-
-type-at : (types : List ℕ) (w : ℕ) → w < length types → getElem? (map typeOfByte types) w ≡ some (typeOfByte (getD types w 0))
-type-at [] w l = absurd (omega arith)
-type-at (t ∷ ts) zero l = refl
-type-at (t ∷ ts) (suc w) l = type-at ts w (omega arith)
 
 -- what holds at w, and at x where x is another
 at-or-else : (P : ℕ → Type 0) (w x : ℕ) → P w → (x ≢ w → P x) → P x
@@ -146,7 +141,8 @@ module _ {s memory input types start : List ℕ} {first bits : ℕ} (b : Before 
         ahead = λ x l. none x;
       }
 
-  pub stands : {words : List ℕ} → Holds (length types) bits words (b .values) → Stands (b .running .inputs) types input words bits environment
+  pub stands : {words : List ℕ} → Holds (length types) bits words (b .values)
+      → Stands (b .running .inputs) types input words bits environment
   unfolding OnWires
   stands h =
       let r = b .running in
@@ -155,7 +151,8 @@ module _ {s memory input types start : List ℕ} {first bits : ℕ} (b : Before 
         onInputs = r .onInputs;
         wireLimit = r .few;
         wordSize = h .room;
-        onWires = λ w l. stands-for (h .each w l) (b .typed w (typeOfByte (getD types w 0)) (rw (r .wireTypes) (type-at types w l)));
+        onWires = λ w l.
+            stands-for (h .each w l) (b .typed w (typeOfByte (getD types w 0)) (rw (r .wireTypes) (type-of-named types w l refl)));
       }
 
   -- where the expression of wire w stands

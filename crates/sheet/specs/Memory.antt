@@ -82,7 +82,7 @@ startOutcome s memory =
     unlessLength MemoryLength (length memory) (5 * length (sheetForms sheet))
     (result (memoryBytes (startMemory (sheetForms sheet)))))
 
-abbrev answerOf : Outcome (List ℕ) → StartAnswer
+abbrev pub answerOf : Outcome (List ℕ) → StartAnswer
 answerOf (refusal why place) = Refused why place
 answerOf (result bytes) = Done
 

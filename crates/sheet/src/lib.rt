@@ -4,6 +4,7 @@ pub mod bodies;
 pub mod data;
 pub mod kinds;
 pub mod memory;
+pub mod refusals;
 pub mod rows;
 
 // What an input, a constant, a cell or a known wire holds.

@@ -13,7 +13,7 @@ use borrow.Author.Tests.{ltb-true, ltb-false, eq-eqb, ne-eqb}
 use Rattle.sheet.specs.Data.{ValueType, boolean, number, typeOf, typeOfByte, datumOf}
 use Rattle.sheet.specs.Expressions.{Expression, CellForm, cellForms}
 use Rattle.sheet.specs.Kinds.{cellsOf, bodyOf, operandsOf}
-use Rattle.sheet.specs.Readings.{Reading, refused, got, erased, readEach, bodyAt, ownOf, readExpression}
+use Rattle.sheet.specs.Readings.{Reading, got, erased, readEach, bodyAt, ownOf, readExpression}
 use Rattle.sheet.specs.Outcomes.{result}
 use Rattle.sheet.specs.Sheets.{Sheet, formsOf, sheetForms, before, expressionsFrom, readSheet, sheetOf, checkedOf, checkOf}
 use Rattle.sheet.specs.Memory.{typeByte, formByte}

@@ -1,5 +1,5 @@
 -- What each function returns and leaves is what every placement asks for, from what its calls answer: one law to each return.
-use Prim.Native.Nat.{ℕ, suc, _+_, _-_, _*_, _≤_, _<_}
+use Prim.Native.Nat.{ℕ, _+_, _-_, _*_, _≤_, _<_}
 use mathlib.Core.Path.{_≡_, refl, sym, ap, subst, _∙_}
 use mathlib.Core.Bool.{Bool, true, false, _||_, cond}
 use mathlib.Core.List.{List, [], _∷_, _++_, append-assoc}
@@ -20,18 +20,18 @@ use Rattle.sheet.specs.declared.Cell.the-variants.{NotStarted, Started}
 use Rattle.sheet_walk.specs.declared.skip.Skipped.{Skipped}
 use Rattle.kernel.specs.Values.{truth, whenKnown, isTrue, datumIn}
 use Rattle.kernel.specs.Operations.{unaryOf, binaryOf, unaryValue, binaryValue}
-use Rattle.kernel.specs.Instant.{runs, chosen, value, kept, stored, cellAt, heldOr, knownOr}
+use Rattle.kernel.specs.Instant.{runs, chosen, value, stored, cellAt, heldOr, knownOr}
 use Rattle.kernel.specs.declared.Value.{Value}
 use Rattle.kernel.specs.declared.Value.the-variants.{Unknown, Known}
 use Rattle.expression.specs.Places.{Placement, valuedOf}
 use Rattle.expression.specs.declared.Valued.{Valued}
-use Rattle.expression.proofs.Views.{Operand, operand-counted, Alone, One, Two, Three, own-cell}
+use Rattle.expression.proofs.Views.{operand-counted, Alone, One, Two, Three, own-cell}
 use Rattle.expression.proofs.Views.{unary-view, binary-view, conditional-view, present-view, reset-view, fby-view, pre-view}
 use Rattle.expression.proofs.Views.{constant-view, wire-view, input-view}
 use Rattle.expression.proofs.Values.{operandValue, wholeValue, unary-value, binary-value, choose-value, first-chosen, reset-value, fby-value}
 use Rattle.expression.proofs.Values.{finished}
 use Rattle.storing.specs.Advances.{Ready, Advances}
-use Rattle.storing.proofs.Steps.{Steps, Stays, Reached, put-first, one-ready, one-step, two-ready, two-step, two-step-2}
+use Rattle.storing.proofs.Steps.{Steps, Stays, operandStored, operandKept, put-first, one-ready, one-step, two-ready, two-step, two-step-2}
 use Rattle.storing.proofs.Steps.{three-step, three-step-2, three-step-3, three-rest-2, three-rest-3, rest-step-3}
 
 -- a present whose condition does not hold, and a reset, under their condition
@@ -51,47 +51,41 @@ module _ {sheet row memory words : List ℕ} {bits level asked at cell : ℕ}
   abbrev kind : ℕ
   kind = getD sheet at 0
 
-  abbrev operandStored : {t a k : ℕ} → Bool → Operand here t a k → List Cell
-  operandStored {k = k} f o = stored (here .now) f (o .tree) k
-
-  abbrev operandKept : {t a k : ℕ} → Operand here t a k → List Cell
-  operandKept {k = k} o = kept (here .now) fresh (o .tree) k
-
   abbrev wholeStored : List Cell
   wholeStored = stored (here .now) fresh (here .tree) cell
 
   -- what is stored, by what the operands store
-  unary-stored : {o : Unary} {t a : ℕ} (w : One here t a cell (unary o)) → wholeStored ≡ operandStored fresh (w .first)
+  unary-stored : {o : Unary} {t a : ℕ} (w : One here t a cell (unary o)) → wholeStored ≡ operandStored p fresh (w .first)
   unfolding stored
   unary-stored w = ap (λ e. stored (here .now) fresh e cell) (w .ends .tree)
 
   binary-stored : {o : Binary} {t u a : ℕ} (w : Two here t u a cell (binary o))
-      → wholeStored ≡ operandStored fresh (w .first) ++ operandStored fresh (w .second)
+      → wholeStored ≡ operandStored p fresh (w .first) ++ operandStored p fresh (w .second)
   unfolding stored
   binary-stored w = ap (λ e. stored (here .now) fresh e cell) (w .ends .tree) ∙ rw (operand-counted here (w .first))
 
   choose-stored : {o : Choice} {t u s a : ℕ} (w : Three here t u s a cell (choose o))
       → let holds = isTrue (operandValue here fresh (w .first)) in
-      wholeStored ≡ operandStored fresh (w .first)
-      ++ (cond (runs o holds true) (operandStored fresh (w .second)) (operandKept (w .second))
-      ++ cond (runs o holds false) (operandStored fresh (w .third)) (operandKept (w .third)))
+      wholeStored ≡ operandStored p fresh (w .first)
+      ++ (cond (runs o holds true) (operandStored p fresh (w .second)) (operandKept p fresh (w .second))
+      ++ cond (runs o holds false) (operandStored p fresh (w .third)) (operandKept p fresh (w .third)))
   unfolding stored
   choose-stored w =
       ap (λ e. stored (here .now) fresh e cell) (w .ends .tree) ∙ rw (operand-counted here (w .second), operand-counted here (w .first))
 
   reset-stored : {t u a : ℕ} (w : Two here t u a cell reset)
-      → wholeStored ≡ operandStored fresh (w .first) ++ operandStored (isTrue (operandValue here fresh (w .first)) || fresh) (w .second)
+      → wholeStored ≡ operandStored p fresh (w .first) ++ operandStored p (isTrue (operandValue here fresh (w .first)) || fresh) (w .second)
   unfolding stored
   reset-stored w = ap (λ e. stored (here .now) fresh e cell) (w .ends .tree) ∙ rw (operand-counted here (w .first))
 
   pre-stored : {d : Datum} {t a : ℕ} (w : One here t a (cell + 1) (pre d))
-      → wholeStored ≡ Started (datumIn (operandValue here fresh (w .first))) ∷ operandStored fresh (w .first)
+      → wholeStored ≡ Started (datumIn (operandValue here fresh (w .first))) ∷ operandStored p fresh (w .first)
   unfolding stored
   pre-stored w = ap (λ e. stored (here .now) fresh e cell) (w .ends .tree) ∙ rw add-one
 
   fby-stored : {y : ValueType} {t u a : ℕ} (w : Two here t u a (cell + 1) (fby y))
       → wholeStored ≡ Started (datumIn (operandValue here fresh (w .second)))
-      ∷ (operandStored fresh (w .first) ++ operandStored fresh (w .second))
+      ∷ (operandStored p fresh (w .first) ++ operandStored p fresh (w .second))
   unfolding stored
   fby-stored w = ap (λ e. stored (here .now) fresh e cell) (w .ends .tree) ∙ rw (operand-counted here (w .first), add-one)
 
@@ -189,8 +183,8 @@ module _ {sheet row memory words : List ℕ} {bits level asked at cell : ℕ}
         let v = choose-value here fresh shown in
         let other = present-else (operandValue here fresh (shown .first)) (operandValue here fresh (shown .second))
         (operandValue here fresh (shown .third)) fails in
-        finish (shown .ends) (is ∙ rw (c .answer, b .answer) (other ∙ sym v)) (ap (λ x. x .next) (b .answer)) (ap (λ x. x .cell) (b .answer))
-        (b .reached .holds) (sym (choose-stored shown ∙ rw (fails, append-assoc)))
+        finish (shown .ends) (is ∙ rw (c .answer, b .answer) (other ∙ sym v)) (ap (λ x. x .next) (b .answer))
+        (ap (λ x. x .cell) (b .answer)) (b .reached .holds) (sym (choose-stored shown ∙ rw (fails, append-assoc)))
 
   module _ (of : kind ≡ 14) where
     pub reset-advances : {c a : Valued} {m m′ : List ℕ} → Steps p memory 0 (at + 1) cell fresh c m
@@ -210,8 +204,8 @@ module _ {sheet row memory words : List ℕ} {bits level asked at cell : ℕ}
   own-kept low is = is ∙ own-cell here low .reads
 
   pub pre-advances : 15 ≤ kind → kind < 17 → {body size : ℕ} → body ≡ bodyAt sheet at → size ≡ bodyOf kind
-      → {constant datum : Datum} {before : Cell} → constant ≡ datumOf (typeOfByte asked) body → before ≡ readCell (typeOfByte asked) memory cell
-      → datum ≡ heldOr constant (cond fresh (Started constant) before)
+      → {constant datum : Datum} {before : Cell} → constant ≡ datumOf (typeOfByte asked) body
+      → before ≡ readCell (typeOfByte asked) memory cell → datum ≡ heldOr constant (cond fresh (Started constant) before)
       → {a : Valued} {m m′ : List ℕ} → Steps p memory asked (at + 1 + size) (cell + 1) fresh a m
       → {d : Datum} → d ≡ datumIn (a .value) → m′ ≡ sets m (5 * cell) (cellBytes (Started d))
       → Advances p fresh (record { value = Known datum; next = a .next; cell = a .cell }) m′

@@ -140,7 +140,8 @@ pub begun : {s : List ℕ} {at c : ℕ} (p : Readable s at c) (memory : List ℕ
     → Left s at c 1 memory (p .next) (p .count) (sets memory (5 * c) (startBytes (cellForms (p .tree))))
 begun {s} {at} {c} p memory = record {
   bytes = startBytes (cellForms (p .tree));
-  ahead = rw append-nil at (expression-ahead (p .inputs) (p .wires) s (p .level) (p .asked) at c (p .tree) (p .next) (p .count) 0 (p .next) (p .count) []
+  ahead = rw append-nil at (expression-ahead (p .inputs) (p .wires) s (p .level) (p .asked) at c (p .tree) (p .next) (p .count) 0
+      (p .next) (p .count) []
       (p .reads) done);
   makes = refl;
 }

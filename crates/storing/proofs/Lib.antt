@@ -1,7 +1,7 @@
 -- What the proofs of several functions use.
-mod Splices
-mod Standing
-mod Anew
-mod Resting
-mod Steps
-mod Advancing
+pub mod Splices
+pub mod Standing
+pub mod Anew
+pub mod Resting
+pub mod Steps
+pub mod Advancing

@@ -1,11 +1,10 @@
 -- An arm that does not advance: restarted where it is fresh, and else as it was.
-use Prim.Native.Nat.{ℕ, _+_, _*_, _≤_}
+use Prim.Native.Nat.{ℕ}
 use mathlib.Core.Path.{_≡_, sym}
 use mathlib.Core.Bool.{true, false}
 use mathlib.Core.List.{List}
 use native.Mathlib.Omega.{arith}
 use lib.ListN.{length}
-use Rattle.sheet.specs.Expressions.{cellForms, cellCount}
 use Rattle.sheet.specs.Laws.Readings.{forms-length, expression-extent}
 use Rattle.sheet_walk.specs.declared.skip.Skipped.{Skipped}
 use Rattle.kernel.specs.Instant.{kept}

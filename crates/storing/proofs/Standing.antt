@@ -1,7 +1,7 @@
 -- Cells that stand in a memory still stand after bytes were put before them; to put them where they stand changes nothing; and as many
 -- cells are stored or kept as an expression has.
-use Prim.Native.Nat.{ℕ, suc, _+_, _*_, _≤_, _<_}
-use mathlib.Core.Path.{_≡_, refl, sym, ap, _∙_}
+use Prim.Native.Nat.{ℕ, suc, _+_, _*_, _≤_}
+use mathlib.Core.Path.{_≡_, refl, ap, _∙_}
 use mathlib.Core.Bool.{Bool, true, false, _||_, cond}
 use mathlib.Core.List.{List, [], _∷_, _++_, append-assoc}
 use native.Mathlib.Omega.{arith}
@@ -9,7 +9,7 @@ use lib.ListN.{length, getD, take, drop, length-append, length-drop, length-map}
 use lib.Seq.{sets, length-sets, drop-cons, length-take-le}
 use Rattle.numbers.specs.Laws.{sets-past}
 use Rattle.sheet.specs.Expressions.{Expression, constant, wire, input, unary, binary, choose, reset, pre, fby}
-use Rattle.sheet.specs.Expressions.{Choice, CellForm, cellForms, cellCount}
+use Rattle.sheet.specs.Expressions.{CellForm, cellForms, cellCount}
 use Rattle.sheet.specs.Memory.{cellBytes, memoryBytes, startMemory}
 use Rattle.sheet.specs.Laws.Readings.{forms-length}
 use Rattle.sheet.specs.declared.Cell.{Cell}

@@ -1,11 +1,11 @@
 -- The operands of an expression advance or rest one after the other in one memory: each of them still stands where it stood, and their
 -- cells are put one run behind the other.
-use Prim.Native.Nat.{ℕ, suc, _+_, _-_, _*_, _≤_}
+use Prim.Native.Nat.{ℕ, _+_, _-_, _*_, _≤_}
 use mathlib.Core.Path.{_≡_, refl, sym, ap, subst, _∙_}
 use mathlib.Core.Bool.{Bool}
 use mathlib.Core.List.{List, [], _∷_, _++_}
 use native.Mathlib.Omega.{arith}
-use lib.ListN.{length, getD, length-append}
+use lib.ListN.{length, length-append}
 use lib.Seq.{sets, length-sets}
 use Rattle.sheet.specs.Expressions.{Expression, cellForms, cellCount}
 use Rattle.sheet.specs.Memory.{cellBytes, memoryBytes}
@@ -13,9 +13,9 @@ use Rattle.sheet.specs.Laws.Memory.{memory-length}
 use Rattle.sheet.specs.declared.Cell.{Cell}
 use Rattle.sheet_walk.specs.declared.skip.Skipped.{Skipped}
 use Rattle.kernel.specs.Instant.{kept, stored}
-use Rattle.expression.specs.Places.{Placement, CellsStand, valuedOf}
+use Rattle.expression.specs.Places.{CellsStand, valuedOf}
 use Rattle.expression.specs.declared.Valued.{Valued}
-use Rattle.expression.proofs.Views.{Operand, placed, readable, operand-counted, own-cell, One, Two, Three}
+use Rattle.expression.proofs.Views.{Operand, placed, readable, operand-counted, One, Two, Three}
 use Rattle.storing.specs.Advances.{Ready, Advances, Arm, Rests}
 use Rattle.storing.proofs.Splices.{sets-append, sets-turned}
 use Rattle.storing.proofs.Standing.{cells-past, cell-length, memory-append, kept-length, stored-length}
@@ -28,6 +28,13 @@ module _ {sheet row memory words : List ℕ} {bits level asked at cell : ℕ}
 
   abbrev pub Stays : (m : List ℕ) (a k : ℕ) → Bool → Skipped → (m′ : List ℕ) → Type 0
   Stays m a k f r m′ = (o : Arm sheet m a k) → Rests o f r m′
+
+  -- what an operand stores where it advances, and what it keeps where it rests
+  abbrev pub operandStored : {t a k : ℕ} → Bool → Operand (p .place) t a k → List Cell
+  operandStored {k = k} f o = stored (p .place .now) f (o .tree) k
+
+  abbrev pub operandKept : {t a k : ℕ} → Bool → Operand (p .place) t a k → List Cell
+  operandKept {k = k} f o = kept (p .place .now) f (o .tree) k
 
   -- m has these cells from number `first` on, up to number k, and is else as it was
   pub record Reached (first k : ℕ) (cells : List Cell) (m : List ℕ) : Type 0 where
@@ -52,13 +59,14 @@ module _ {sheet row memory words : List ℕ} {bits level asked at cell : ℕ}
   module _ (first : ℕ) (cs : List Cell) {t a k : ℕ} (o : Operand (p .place) t a k) (f : Bool) where
     pub record Advanced (v : Valued) (m : List ℕ) : Type 0 where
       pub answer : v ≡ valuedOf (placed (p .place) o) f
-      pub reached : Reached first (o .count) (cs ++ stored (p .place .now) f (o .tree) k) m
+      pub reached : Reached first (o .count) (cs ++ operandStored f o) m
 
     pub record Rested (v : Skipped) (m : List ℕ) : Type 0 where
       pub answer : v ≡ record { next = o .next; cell = o .count }
-      pub reached : Reached first (o .count) (cs ++ kept (p .place .now) f (o .tree) k) m
+      pub reached : Reached first (o .count) (cs ++ operandKept f o) m
 
-  module _ {first : ℕ} {cs : List Cell} {m : List ℕ} {t a k : ℕ} (o : Operand (p .place) t a k) {n j : ℕ} (b : Behind first cs m o n j) where
+  module _ {first : ℕ} {cs : List Cell} {m : List ℕ} {t a k : ℕ} (o : Operand (p .place) t a k) {n j : ℕ}
+      (b : Behind first cs m o n j) where
     still : CellsStand m (p .place .now .memory) k (cellForms (o .tree))
     still =
         rw (b .reached .holds)
@@ -102,7 +110,9 @@ module _ {sheet row memory words : List ℕ} {bits level asked at cell : ℕ}
         let place : 5 * k ≡ 5 * first + length (memoryBytes cs) = omega (arith, memory-length cs, b .reached .counted) in
         record {
           counted = simp length-append (omega (arith, operand-counted (p .place) o, b .reached .counted, sized));
-          holds = e ∙ rw (b .reached .holds, place, memory-append cs ds) (sym (sets-append (memoryBytes cs) (memoryBytes ds) memory (5 * first)));
+          holds =
+              e ∙ rw (b .reached .holds, place, memory-append cs ds)
+              (sym (sets-append (memoryBytes cs) (memoryBytes ds) memory (5 * first)));
         }
 
     among : k + cellCount (o .tree) ≤ length (p .place .now .memory)
@@ -124,12 +134,12 @@ module _ {sheet row memory words : List ℕ} {bits level asked at cell : ℕ}
   module _ {first : ℕ} {cs : List Cell} {t a k : ℕ} (o : Operand (p .place) t a k) {f : Bool} {m : List ℕ} {u : ℕ}
       (o′ : Operand (p .place) u (o .next) (o .count)) (inside : o′ .count ≤ p .place .count) where
     behind-advanced : {v : Valued} → Advanced first cs o f v m
-        → Behind first (cs ++ stored (p .place .now) f (o .tree) k) m o′ (v .next) (v .cell)
+        → Behind first (cs ++ operandStored f o) m o′ (v .next) (v .cell)
     behind-advanced s =
         record { reached = s .reached; inside = inside; next = ap (λ x. x .next) (s .answer); count = ap (λ x. x .cell) (s .answer) }
 
     behind-rested : {v : Skipped} → Rested first cs o f v m
-        → Behind first (cs ++ kept (p .place .now) f (o .tree) k) m o′ (v .next) (v .cell)
+        → Behind first (cs ++ operandKept f o) m o′ (v .next) (v .cell)
     behind-rested s =
         record { reached = s .reached; inside = inside; next = ap (λ x. x .next) (s .answer); count = ap (λ x. x .cell) (s .answer) }
 
@@ -141,9 +151,6 @@ module _ {sheet row memory words : List ℕ} {bits level asked at cell : ℕ}
       let place : 5 * (cell + 1) ≡ 5 * cell + length (cellBytes c) = omega (arith, cell-length c) in
       let turned = sets-turned (cellBytes c) (memoryBytes cs) memory (5 * cell) (5 * (cell + 1)) (omega arith) in
       rw (e, r .holds, turned, place) (sym (sets-append (cellBytes c) (memoryBytes cs) memory (5 * cell)))
-
-  pub own-room : {first k : ℕ} {cs : List Cell} {m : List ℕ} → Reached first k cs m → 15 ≤ getD sheet at 0 → 5 * cell + 5 ≤ length m
-  own-room r low = omega (arith, own-cell (p .place) low .stands .fits, reached-length r)
 
   -- the operands of a view in turn
   one-begins : {t a k : ℕ} {g : Expression → Expression} (w : One (p .place) t a k g) → Behind k [] memory (w .first) a k
@@ -173,14 +180,14 @@ module _ {sheet row memory words : List ℕ} {bits level asked at cell : ℕ}
       pub two-step : Advanced k [] (w .first) f v m
       two-step = advanced (w .first) (two-begins w) h
 
-      two-follows : Behind k (stored (p .place .now) f (w .first .tree) k) m (w .second) (v .next) (v .cell)
+      two-follows : Behind k (operandStored f (w .first)) m (w .second) (v .next) (v .cell)
       two-follows = behind-advanced (w .first) (w .second) (omega (arith, w .ends .count)) two-step
 
       pub two-ready-2 : Ready sheet row m words bits (level - 1) u (v .next) (v .cell)
       two-ready-2 = ready (w .second) two-follows
 
       pub two-step-2 : {f′ : Bool} {x : Valued} {m′ : List ℕ} → Steps m u (v .next) (v .cell) f′ x m′
-          → Advanced k (stored (p .place .now) f (w .first .tree) k) (w .second) f′ x m′
+          → Advanced k (operandStored f (w .first)) (w .second) f′ x m′
       two-step-2 h′ = advanced (w .second) two-follows h′
 
   three-begins : {t u s a k : ℕ} {g : Expression → Expression → Expression → Expression} (w : Three (p .place) t u s a k g)
@@ -200,7 +207,7 @@ module _ {sheet row memory words : List ℕ} {bits level asked at cell : ℕ}
       pub three-step : Advanced k [] (w .first) f c m
       three-step = advanced (w .first) (three-begins w) h
 
-      three-follows : Behind k (stored (p .place .now) f (w .first .tree) k) m (w .second) (c .next) (c .cell)
+      three-follows : Behind k (operandStored f (w .first)) m (w .second) (c .next) (c .cell)
       three-follows =
           behind-advanced (w .first) (w .second) (omega (arith, w .ends .count, operand-counted (p .place) (w .third))) three-step
 
@@ -211,10 +218,10 @@ module _ {sheet row memory words : List ℕ} {bits level asked at cell : ℕ}
       three-arm-2 = arm (w .second) three-follows
 
       module _ {f′ : Bool} {v : Valued} {m′ : List ℕ} (h′ : Steps m u (c .next) (c .cell) f′ v m′) where
-        pub three-step-2 : Advanced k (stored (p .place .now) f (w .first .tree) k) (w .second) f′ v m′
+        pub three-step-2 : Advanced k (operandStored f (w .first)) (w .second) f′ v m′
         three-step-2 = advanced (w .second) three-follows h′
 
-        three-last : Behind k (stored (p .place .now) f (w .first .tree) k ++ stored (p .place .now) f′ (w .second .tree) (w .first .count)) m′ (w .third) (v .next) (v .cell)
+        three-last : Behind k (operandStored f (w .first) ++ operandStored f′ (w .second)) m′ (w .third) (v .next) (v .cell)
         three-last = behind-advanced (w .second) (w .third) (omega (arith, w .ends .count)) three-step-2
 
         pub three-ready-3 : Ready sheet row m′ words bits (level - 1) s (v .next) (v .cell)
@@ -224,23 +231,23 @@ module _ {sheet row memory words : List ℕ} {bits level asked at cell : ℕ}
         three-arm-3 = arm (w .third) three-last
 
         pub three-step-3 : {f″ : Bool} {x : Valued} {m″ : List ℕ} → Steps m′ s (v .next) (v .cell) f″ x m″
-            → Advanced k (stored (p .place .now) f (w .first .tree) k ++ stored (p .place .now) f′ (w .second .tree) (w .first .count)) (w .third) f″ x m″
+            → Advanced k (operandStored f (w .first) ++ operandStored f′ (w .second)) (w .third) f″ x m″
         three-step-3 h″ = advanced (w .third) three-last h″
 
         pub three-rest-3 : {f″ : Bool} {x : Skipped} {m″ : List ℕ} → Stays m′ (v .next) (v .cell) f″ x m″
-            → Rested k (stored (p .place .now) f (w .first .tree) k ++ stored (p .place .now) f′ (w .second .tree) (w .first .count)) (w .third) f″ x m″
+            → Rested k (operandStored f (w .first) ++ operandStored f′ (w .second)) (w .third) f″ x m″
         three-rest-3 h″ = rested (w .third) three-last h″
 
       module _ {f′ : Bool} {v : Skipped} {m′ : List ℕ} (h′ : Stays m (c .next) (c .cell) f′ v m′) where
-        pub three-rest-2 : Rested k (stored (p .place .now) f (w .first .tree) k) (w .second) f′ v m′
+        pub three-rest-2 : Rested k (operandStored f (w .first)) (w .second) f′ v m′
         three-rest-2 = rested (w .second) three-follows h′
 
-        rest-last : Behind k (stored (p .place .now) f (w .first .tree) k ++ kept (p .place .now) f′ (w .second .tree) (w .first .count)) m′ (w .third) (v .next) (v .cell)
+        rest-last : Behind k (operandStored f (w .first) ++ operandKept f′ (w .second)) m′ (w .third) (v .next) (v .cell)
         rest-last = behind-rested (w .second) (w .third) (omega (arith, w .ends .count)) three-rest-2
 
         pub rest-ready-3 : Ready sheet row m′ words bits (level - 1) s (v .next) (v .cell)
         rest-ready-3 = ready (w .third) rest-last
 
         pub rest-step-3 : {f″ : Bool} {x : Valued} {m″ : List ℕ} → Steps m′ s (v .next) (v .cell) f″ x m″
-            → Advanced k (stored (p .place .now) f (w .first .tree) k ++ kept (p .place .now) f′ (w .second .tree) (w .first .count)) (w .third) f″ x m″
+            → Advanced k (operandStored f (w .first) ++ operandKept f′ (w .second)) (w .third) f″ x m″
         rest-step-3 h″ = advanced (w .third) rest-last h″

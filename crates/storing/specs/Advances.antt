@@ -13,7 +13,8 @@ use Rattle.kernel.specs.Instant.{Environment, kept}
 use Rattle.expression.specs.Places.{CellsStand, Placement, valuedOf, storedBytes}
 use Rattle.expression.specs.declared.Valued.{Valued}
 
--- an expression that stands somewhere, and whose cells are among those of the instant and have room in the memory
+-- an expression that stands somewhere, and whose cells are among those of the instant, so that an arm keeps as many as it has, and
+-- have room in the memory
 pub record Ready (sheet input memory words : List ℕ) (bits level asked at cell : ℕ) : Type 0 where
   pub place : Placement sheet input memory words bits level asked at cell
   pub within : place .count ≤ length (place .now .memory)

@@ -3,9 +3,7 @@
 use sheet::kinds;
 use sheet_walk::skip;
 use sheet_walk::skip::Skipped;
-ghost use Prim.Native.Nat.{_*_, _≤_};
 ghost use lib.ListN.{length};
-ghost use Rattle.sheet_walk.specs.Skips.{Readable};
 ghost use Rattle.storing.specs.Advances.{Room, Restarts, Arm, Rests};
 
 // The walk past the expression at `at`, which puts each cell that it meets as it is at the start.

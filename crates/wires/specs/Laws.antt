@@ -22,6 +22,12 @@ tally-beyond f n m h past = let e : m - n + n ≡ m = omega arith in ap (tally f
     more zero = rw zero-add
     more (suc d) = rw (suc-add d n, past (d + n) (omega arith), more d) (omega arith)
 
+-- the count from the front
+pub tally-front : (f : ℕ → Bool) (n : ℕ) → tally f (suc n) ≡ cond (f 0) 1 0 + tally (λ k. f (suc k)) n
+unfolding tally
+tally-front f zero = refl
+tally-front f (suc n) = omega (arith, tally-front f n)
+
 -- a larger set counts at least as many
 pub tally-grows : (f g : ℕ → Bool) (n : ℕ) → ((k : ℕ) → k < n → f k ≡ true → g k ≡ true) → tally f n ≤ tally g n
 unfolding tally

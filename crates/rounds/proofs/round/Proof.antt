@@ -47,8 +47,9 @@ loop-again c =
     let l = c .before .before .before .before .before .before .before .before .loop in (
       omega arith,
       put-length (c .before .before .put-value .ensures) ∙ l .inv .1,
-      λ b. further b (l .inv .2 b) (c .before .before .before .before .before .before .before .loop-test .taken) (c .before .before .before .before .value-expression .result)
-          (c .before .before .before .before .value-expression .ensures) (c .before .before .put-value .ensures),
+      λ b. further b (l .inv .2 b) (c .before .before .before .before .before .before .before .loop-test .taken)
+          (c .before .before .before .before .value-expression .result) (c .before .before .before .before .value-expression .ensures)
+          (c .before .before .put-value .ensures),
     )
 
 same-length : tie.Need-same-length Inv-loop μ-loop

@@ -1,20 +1,16 @@
 -- `write_row` meets its contract. The loop's invariant: the words that are left, put behind those of the outputs passed, make the row.
 use Prim.Native.Nat.{ℕ, suc, _+_, _-_, _*_, _≤_, _<_}
 use mathlib.Core.Path.{_≡_, refl, sym, _∙_}
-use mathlib.Core.List.{List, [], append-nil}
+use mathlib.Core.List.{List}
 use native.Mathlib.Numerals.{add-one}
 use native.Mathlib.Omega.{arith}
-use lib.ListN.{length, getD, drop, drop-of-length-le}
-use lib.Seq.{sets, sets-eq, drop-cons, drop-length}
+use lib.ListN.{length, getD, drop}
+use lib.Seq.{sets, drop-cons, drop-length}
+use Rattle.numbers.specs.Laws.{sets-all}
 use Rattle.numbers.specs.Words.{wordBytes}
 use Rattle.rounds.specs.Outputs.{Below, wordsOf, words-length}
 use Rattle.rounds.proofs.write_row.Statement.{statement}
 use Rattle.rounds.proofs.write_row.Tie as tie
-
-sets-all : (vs l : List ℕ) → length vs ≡ length l → sets l 0 vs ≡ vs
-sets-all vs l e =
-    let none : drop (0 + length vs) l ≡ [] = drop-of-length-le l {i = 0 + length vs} (omega arith) in
-    sets-eq vs l 0 (omega arith) ∙ rw none (append-nil vs)
 
 -- one word more
 written : (outputs words row new : List ℕ) (i : ℕ) → i < length outputs
@@ -56,10 +52,17 @@ mul-put-word-2 c = omega (arith, c .before .shared-slice-known3 .given (c .befor
 
 shared-slice-read-put-word : tie.Need-shared-slice-read-put-word Inv-loop μ-loop
 unfolding Below
-shared-slice-read-put-word c = c .before .before .before .before .before .before .before .before .pre .0 (c .before .before .before .before .loop .i) (c .before .before .before .loop-test .taken)
+shared-slice-read-put-word c =
+    c .before .before .before .before .before .before .before .before .pre .0
+    (c .before .before .before .before .loop .i) (c .before .before .before .loop-test .taken)
 
 put-word-requires : tie.Need-put-word-requires Inv-loop μ-loop
-put-word-requires c κs = omega (arith, c .before .before .before .before .before .before .before .before .pre .1, c .before .before .before .before .loop .inv .1)
+put-word-requires c κs =
+    omega (
+      arith,
+      c .before .before .before .before .before .before .before .before .pre .1,
+      c .before .before .before .before .loop .inv .1,
+    )
 
 add-i : tie.Need-add-i Inv-loop μ-loop
 add-i c = omega arith
@@ -72,7 +75,8 @@ loop-again c =
     let l = c .before .before .before .before .before .before .before .loop in (
       omega arith,
       c .before .before .put-word .kept .0 ∙ l .inv .1,
-      written _ _ _ _ _ (c .before .before .before .before .before .before .loop-test .taken) (c .before .before .put-word .ensures) ∙ l .inv .2,
+      written _ _ _ _ _ (c .before .before .before .before .before .before .loop-test .taken) (c .before .before .put-word .ensures)
+          ∙ l .inv .2,
     )
 
 same-length : tie.Need-same-length Inv-loop μ-loop

@@ -226,15 +226,15 @@ module _ (s memory input output : List ℕ) (given : Given) (e : givenOf s memor
       let no : outputCount ≡ v .outputCount = ap length outputs ∙ section-length go in
       let at-types : 2 + inputCount ≡ v .wiresEnd - v .wireCount = omega (arith, gi .bytes .next, gw .bytes .next) in
       let at-outputs : 3 + inputCount + wiresCount ≡ v .outputsEnd - v .outputCount =
-          omega (arith, gi .bytes .next, gw .bytes .next, go .bytes .next) in
+      omega (arith, gi .bytes .next, gw .bytes .next, go .bytes .next) in
       let at-first : firstOf ≡ v .outputsEnd = omega (arith, gi .bytes .next, gw .bytes .next, go .bytes .next) in
       let typesAre : typesOf ≡ types = ap₂ (λ (a b : ℕ). take a (drop b s)) nw at-types in
       let outputsAre : outputsOf ≡ outs = ap₂ (λ (a b : ℕ). take a (drop b s)) no at-outputs in
       let (sizedInput, row) = input-view (given .sheet .inputTypes) input (by .inputs) in
       let entries : (i : ℕ) → i < length inputs → inputAt (given .inputs) i ≡ datumOf (typeOfByte (getD inputs i 0)) (entryAt input i) =
-          λ i l. let z : 0 + i ≡ i = omega arith in
-          ap (λ (ds : List Datum). inputAt ds i) (row ∙ ap (dataFrom input 0) inputTypes)
-          ∙ row-at input inputs 0 i l ∙ ap (λ (k : ℕ). datumOf (typeOfByte (getD inputs i 0)) (entryAt input k)) z in
+      λ i l. let z : 0 + i ≡ i = omega arith in
+      ap (λ (ds : List Datum). inputAt ds i) (row ∙ ap (dataFrom input 0) inputTypes)
+      ∙ row-at input inputs 0 i l ∙ ap (λ (k : ℕ). datumOf (typeOfByte (getD inputs i 0)) (entryAt input k)) z in
       record {
         running = record {
           given = given;

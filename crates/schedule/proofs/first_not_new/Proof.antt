@@ -33,7 +33,7 @@ cast-wire c = omega (arith, c .shared-slice-known2 .given (c .before .before .lo
 returns : tie.Need-returns Inv-loop μ-loop
 returns c =
     let l = c .before .before .before .loop in
-    sym (lowest-is _ _ (l .p) (l .inv .0) (λ _. outside _ _ (l .p) (omega arith)) (l .inv .2))
+    (lowest-is _ _ (l .p) (l .inv .0) (λ _. outside _ _ (l .p) (omega arith)) (l .inv .2))
 
 has-requires : tie.Need-has-requires Inv-loop μ-loop
 has-requires c κs = omega arith
@@ -41,7 +41,7 @@ has-requires c κs = omega arith
 returns-2 : tie.Need-returns-2 Inv-loop μ-loop
 returns-2 c =
     let l = c .before .before .before .before .before .loop in
-    sym (lowest-is _ _ (l .p) (l .inv .0)
+    (lowest-is _ _ (l .p) (l .inv .0)
     (λ _. named _ _ (l .p) (c .before .before .if1 .left) (l .inv .1) ∙ sym (c .before .has .ensures) ∙ c .if2 .taken) (l .inv .2))
 
 with-requires : tie.Need-with-requires Inv-loop μ-loop
@@ -66,7 +66,7 @@ loop-again c =
 returns-3 : tie.Need-returns-3 Inv-loop μ-loop
 returns-3 c =
     let l = c .before .loop in
-    sym (lowest-is _ _ (l .p) (l .inv .0) (λ h. absurd (omega arith)) (l .inv .2))
+    (lowest-is _ _ (l .p) (l .inv .0) (λ h. absurd (omega arith)) (l .inv .2))
 
 pub first-not-new-spec : {M : Type 1} → statement M
 first-not-new-spec =

@@ -1,7 +1,7 @@
 -- `first_too_early` finds the first position that check 19 refuses. The loop's invariant: the positions passed are not refused, and
 -- the set holds just their entries.
 use Prim.Native.Nat.{ℕ, _≤_, _<_, _-_}
-use mathlib.Core.Path.{_≡_, sym, _∙_}
+use mathlib.Core.Path.{_≡_, _∙_}
 use mathlib.Core.Bool.{false}
 use native.Mathlib.Omega.{arith}
 use borrow.Author.Count.{below-more}
@@ -66,7 +66,7 @@ returns : tie.Need-returns Inv-loop μ-loop
 returns c l =
     let at = c .before .before .before .before .before .before .before .before .loop in
     let pre = c .before .before .before .before .before .before .before .before .before .before .before .before .before .before .pre in
-    sym (lowest-is _ _ (at .p) (at .inv .0)
+    (lowest-is _ _ (at .p) (at .inv .0)
     (λ more. early l _ (at .p) _ (pre .0) (pre .2 (at .p) more) (at .inv .1) (c .before .before .reads-only .ensures) ∙ c .if1 .taken)
     (at .inv .2 l))
 
@@ -89,7 +89,7 @@ loop-again c =
 
 returns-2 : tie.Need-returns-2 Inv-loop μ-loop
 returns-2 c l =
-    let at = c .before .loop in sym (lowest-is _ _ (at .p) (at .inv .0) (λ h. absurd (omega arith)) (at .inv .2 l))
+    let at = c .before .loop in (lowest-is _ _ (at .p) (at .inv .0) (λ h. absurd (omega arith)) (at .inv .2 l))
 
 pub first-too-early-spec : {M : Type 1} → statement M
 first-too-early-spec =

@@ -65,12 +65,12 @@ lowest-below test (suc bound) j l p = go (test zero) refl (lowest-below (λ k. t
     go false e later zero l p = absurd (true≢false (sym p ∙ e))
     go false e later (suc j) l p = omega (arith, later j (omega arith) p)
 
--- what a search from 0 on stops at, where the test first passes or else at the bound, is the lowest
+-- what a search from below finds is the lowest: it passes, unless it is the bound, and no smaller number does
 pub lowest-is : (test : ℕ → Bool) (bound r : ℕ) → r ≤ bound → (r < bound → test r ≡ true) → ((j : ℕ) → j < r → test j ≡ false)
-    → lowest test bound ≡ r
+    → r ≡ lowest test bound
 unfolding lowest
-lowest-is test zero r within stops passed = omega arith
-lowest-is test (suc bound) zero within stops passed = rw (stops (omega arith))
-lowest-is test (suc bound) (suc r) within stops passed =
-    rw (passed zero (omega arith))
-    (ap suc (lowest-is (λ k. test (suc k)) bound r (omega arith) (λ l. stops (omega arith)) (λ j l. passed (suc j) (omega arith))))
+lowest-is test zero r l found first = omega arith
+lowest-is test (suc bound) zero l found first = rw (found (omega arith))
+lowest-is test (suc bound) (suc r) l found first =
+    rw (first zero (omega arith))
+    (ap suc (lowest-is (λ k. test (suc k)) bound r (omega arith) (λ h. found (omega arith)) (λ j h. first (suc j) (omega arith))))

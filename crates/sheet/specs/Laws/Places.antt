@@ -12,7 +12,7 @@ use Rattle.sheet.specs.Kinds.{bodyOf, cellsOf, operandsOf, limitOf, foun
 use Rattle.sheet.specs.Data.{ValueType}
 use Rattle.sheet.specs.Memory.{invalidAt, memoryOf, startOutcome}
 use Rattle.sheet.specs.Rows.{wrongAt, inputsOf}
-use Rattle.sheet.specs.Outcomes.{Outcome, refusal, result, followedBy, lowest, unlessLength, unlessAny, numberOf, packedRefusal}
+use Rattle.sheet.specs.Outcomes.{Outcome, refusal, result, followedBy, lowest, unlessLength, unlessAny, numberOf}
 use Rattle.sheet.specs.Readings.{Reading, refused, got, andThen, onRead, readEach, namedAt, namesOf, bodyFrom, ownOf, readExpression}
 use Rattle.sheet.specs.Headers.{fieldOf, bytesOf, sectionOf}
 use Rattle.sheet.specs.Sheets.{Sheet, sheetForms, before, outputsFrom, wiresFrom, readSheet, outcomeOf, sheetOf}
@@ -180,28 +180,25 @@ start-within s memory =
     followed-within 4096 (sheetOf s) _ (sheet-of-within s) (λ sheet e.
     length-within 4096 MemoryLength (length memory) (5 * length (sheetForms sheet)) _ result-within)
 
--- a number that is packed fits 32 bits
-pub packed-fits : (why : Refusal) (place : ℕ) → place ≤ 4096 → packedRefusal why place < 4294967296
-packed-fits why place l = omega (arith, numbers-few why)
-  where
-    numbers-few : (why : Refusal) → numberOf why ≤ 20
-    numbers-few SheetLength = omega arith
-    numbers-few Cut = omega arith
-    numbers-few CountRange = omega arith
-    numbers-few TypeByte = omega arith
-    numbers-few OutputWire = omega arith
-    numbers-few Kind = omega arith
-    numbers-few Body = omega arith
-    numbers-few Level = omega arith
-    numbers-few TypeAsked = omega arith
-    numbers-few CellLimit = omega arith
-    numbers-few LeftOver = omega arith
-    numbers-few MemoryLength = omega arith
-    numbers-few CellContent = omega arith
-    numbers-few InputLength = omega arith
-    numbers-few InputContent = omega arith
-    numbers-few OutputLength = omega arith
-    numbers-few ScheduleLength = omega arith
-    numbers-few ScheduleEntry = omega arith
-    numbers-few ScheduleOrder = omega arith
-    numbers-few StaysUnknown = omega arith
+-- a number that is packed keeps number and place apart
+pub numbers-few : (why : Refusal) → numberOf why ≤ 20
+numbers-few SheetLength = omega arith
+numbers-few Cut = omega arith
+numbers-few CountRange = omega arith
+numbers-few TypeByte = omega arith
+numbers-few OutputWire = omega arith
+numbers-few Kind = omega arith
+numbers-few Body = omega arith
+numbers-few Level = omega arith
+numbers-few TypeAsked = omega arith
+numbers-few CellLimit = omega arith
+numbers-few LeftOver = omega arith
+numbers-few MemoryLength = omega arith
+numbers-few CellContent = omega arith
+numbers-few InputLength = omega arith
+numbers-few InputContent = omega arith
+numbers-few OutputLength = omega arith
+numbers-few ScheduleLength = omega arith
+numbers-few ScheduleEntry = omega arith
+numbers-few ScheduleOrder = omega arith
+numbers-few StaysUnknown = omega arith

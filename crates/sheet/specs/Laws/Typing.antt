@@ -42,7 +42,7 @@ own-type boolean (Boolean b) h = refl
 own-type number (Number z) h = refl
 
 -- the type of what is named
-type-of-named : (bytes : List ℕ) (i : ℕ) {t : ℕ} → i < length bytes → getD bytes i 0 ≡ t
+pub type-of-named : (bytes : List ℕ) (i : ℕ) {t : ℕ} → i < length bytes → getD bytes i 0 ≡ t
     → getElem? (map typeOfByte bytes) i ≡ some (typeOfByte t)
 type-of-named [] i l e = absurd (omega arith)
 type-of-named (b ∷ bytes) zero l e = ap (λ x. some (typeOfByte x)) e

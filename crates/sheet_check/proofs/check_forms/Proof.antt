@@ -19,7 +19,8 @@ returns c = sheet-refused (c .before .before .before .args .sheet .now) (simp (e
 returns-2 : tie.Need-returns-2
 unfolding readSheet
 returns-2 c =
-    sheet-refused (c .before .before .before .before .args .sheet .now) (simp (ne-eqb _ _ (c .before .if1 .left), lt-ltb _ _ (c .if2 .taken)))
+    sheet-refused (c .before .before .before .before .args .sheet .now)
+    (simp (ne-eqb _ _ (c .before .if1 .left), lt-ltb _ _ (c .if2 .taken)))
 
 section-requires : tie.Need-section-requires
 section-requires c κs = search needs
@@ -68,22 +69,24 @@ same-length : tie.Need-same-length
 same-length c = search needs
 
 -- the bytes read as the rest from the wires on does
-reads : (c : tie.After-slice-known2)
-    → let a = c .before .before .before .before .before .before .before .before .before .before .before .before .before .args in
-    let g = c .before .before .before .before .before .before .next .given .0 in
+reads : (c : tie.After-known-told2)
+    → let a = c .before .before .before .before .before .before .before .before .args in
+    let g = c .before .next .given .0 in
     readSheet (a .sheet .now) ≡ wiresFrom (a .sheet .now) (before (a .sheet .now) (g .0) (g .1 .0)) (g .0)
 unfolding readSheet
 reads c =
     simp (
-      ne-eqb _ _ (c .before .before .before .before .before .before .before .before .before .before .if1 .left),
-      le-ltb _ _ (c .before .before .before .before .before .before .before .before .before .if2 .left),
-      sym (c .before .before .before .before .before .before .before .before .section .ensures) ∙ c .before .before .before .before .before .before .next .given .1,
+      ne-eqb _ _ (c .before .before .before .before .before .if1 .left),
+      le-ltb _ _ (c .before .before .before .before .if2 .left),
+      sym (c .before .before .before .section .ensures) ∙ c .before .next .given .1,
     )
 
 returns-4 : tie.Need-returns-4
 returns-4 c =
-    let rest = rw (span (ends (c .before .before .before .before .before))) at (c .before .before .wires-from .ensures) in
-    (rw (reads c) (rest .0), sheet-recorded (c .before .before .before .before .before .before .before .before .before .before .before .before .before .args .sheet .now) (rw (reads c) (rest .1)))
+    let good = c .before .before .before .before .before in
+    let start = good .before .before .before .before .before .before .before .before in
+    let rest = rw (span (ends good)) at (c .before .before .wires-from .ensures) in
+    (rw (reads good) (rest .0), sheet-recorded (start .args .sheet .now) (rw (reads good) (rest .1)))
 
 pub check-forms-spec : {M : Type 1} → statement M
 check-forms-spec =

@@ -55,8 +55,10 @@ same-length c = search needs
 
 returns-2 : tie.Need-returns-2
 unfolding wiresFrom
-returns-2 c = rw (sym (c .before .before .before .before .before .before .before .before .section .ensures) ∙ c .before .before .before .before .before .before .next .given .1)
-    (rw (span (ends (c .before .before .before .before .before))) at (c .before .before .outputs-from .ensures))
+returns-2 c =
+    let good = c .before .before .before .before .before in
+    rw (sym (good .before .before .before .section .ensures) ∙ good .before .next .given .1)
+    (rw (span (ends good)) at (c .before .before .outputs-from .ensures))
 
 pub wires-from-spec : {M : Type 1} → statement M
 wires-from-spec =

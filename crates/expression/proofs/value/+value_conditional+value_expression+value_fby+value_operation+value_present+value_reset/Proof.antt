@@ -1,35 +1,29 @@
 -- The functions that value an expression meet their contracts. The level falls from an expression to its operands; an expression
 -- goes by its kind at the same level.
 use Prim.Native.Nat.{ℕ, _<_, _+_, _*_}
-use mathlib.Core.Path.{_≡_, sym, _∙_}
+use mathlib.Core.Path.{sym, _∙_}
 use native.Mathlib.Omega.{arith}
 use borrow.Author.Needs.{needs}
 use borrow.Fn.Kinds.{In}
 use borrow.Fn.PlainCycle.{Measures, is, falls, and}
 use Rattle.expression.proofs.Views.{opened, placed, readable, own-cell}
-use Rattle.expression.proofs.Views.{binary-view, operation-first, conditional-view, present-view, reset-view, fby-view}
+use Rattle.expression.proofs.Views.{operation-first, binary-view, conditional-view, present-view, reset-view, fby-view}
 use Rattle.expression.proofs.Values.{after-value, after-walk}
 use Rattle.expression.proofs.Answers.{unary-answer, binary-answer, conditional-answer, reset-answer-unknown, reset-answer}
 use Rattle.expression.proofs.Answers.{present-answer-first, present-answer-unknown, present-answer-second}
 use Rattle.expression.proofs.Answers.{fby-answer-left, fby-answer-held}
 use Rattle.expression.proofs.value.value_conditional.Reads as conditional
 use Rattle.expression.proofs.value.value_conditional.Kinds as conditional-kinds
-use Rattle.expression.proofs.value.+value_conditional+value_expression+value_fby+value_operation+value_present+value_reset.Lts-value_conditional as conditional-lts
 use Rattle.expression.proofs.value.value_expression.Reads as expression
 use Rattle.expression.proofs.value.value_expression.Kinds as expression-kinds
-use Rattle.expression.proofs.value.+value_conditional+value_expression+value_fby+value_operation+value_present+value_reset.Lts-value_expression as expression-lts
 use Rattle.expression.proofs.value.value_fby.Reads as fby
 use Rattle.expression.proofs.value.value_fby.Kinds as fby-kinds
-use Rattle.expression.proofs.value.+value_conditional+value_expression+value_fby+value_operation+value_present+value_reset.Lts-value_fby as fby-lts
 use Rattle.expression.proofs.value.value_operation.Reads as operation
 use Rattle.expression.proofs.value.value_operation.Kinds as operation-kinds
-use Rattle.expression.proofs.value.+value_conditional+value_expression+value_fby+value_operation+value_present+value_reset.Lts-value_operation as operation-lts
 use Rattle.expression.proofs.value.value_present.Reads as present
 use Rattle.expression.proofs.value.value_present.Kinds as present-kinds
-use Rattle.expression.proofs.value.+value_conditional+value_expression+value_fby+value_operation+value_present+value_reset.Lts-value_present as present-lts
 use Rattle.expression.proofs.value.value_reset.Reads as reset
 use Rattle.expression.proofs.value.value_reset.Kinds as reset-kinds
-use Rattle.expression.proofs.value.+value_conditional+value_expression+value_fby+value_operation+value_present+value_reset.Lts-value_reset as reset-lts
 use Rattle.expression.proofs.value.value_leaf.Reads as leaf-reads
 use Rattle.expression.proofs.value.value_pre.Reads as pre-reads
 use Rattle.operations.proofs.binary.Reads as binary-reads
@@ -42,6 +36,12 @@ use Rattle.sheet.proofs.kinds.operand_types.Reads as operand-types-reads
 use Rattle.sheet.proofs.memory.cell_at.Reads as cell-at-reads
 use Rattle.sheet_walk.proofs.skip.skip.Reads as skip-reads
 use Rattle.expression.proofs.value.+value_conditional+value_expression+value_fby+value_operation+value_present+value_reset.{statement}
+use Rattle.expression.proofs.value.+value_conditional+value_expression+value_fby+value_operation+value_present+value_reset.Lts-value_conditional as conditional-lts
+use Rattle.expression.proofs.value.+value_conditional+value_expression+value_fby+value_operation+value_present+value_reset.Lts-value_expression as expression-lts
+use Rattle.expression.proofs.value.+value_conditional+value_expression+value_fby+value_operation+value_present+value_reset.Lts-value_fby as fby-lts
+use Rattle.expression.proofs.value.+value_conditional+value_expression+value_fby+value_operation+value_present+value_reset.Lts-value_operation as operation-lts
+use Rattle.expression.proofs.value.+value_conditional+value_expression+value_fby+value_operation+value_present+value_reset.Lts-value_present as present-lts
+use Rattle.expression.proofs.value.+value_conditional+value_expression+value_fby+value_operation+value_present+value_reset.Lts-value_reset as reset-lts
 use Rattle.expression.proofs.value.+value_conditional+value_expression+value_fby+value_operation+value_present+value_reset.Tie.{close}
 
 abbrev μ-conditional : Measures 4 conditional-kinds.ps ℕ
@@ -179,58 +179,81 @@ module _ (t : ℕ) where
   conditional-add-first : conditional-lts.Need-add-first (conditional-calls t) (conditional-at t) conditional.Post
   conditional-add-first c = omega (arith, opened (c .before .before .before .before .pre .1 .0) .good .starts)
 
-  conditional-value-expression-requires : conditional-lts.Need-value-expression-requires (conditional-calls t) (conditional-at t) conditional.Post
+  conditional-value-expression-requires :
+      conditional-lts.Need-value-expression-requires (conditional-calls t) (conditional-at t) conditional.Post
   conditional-value-expression-requires c κs =
-      let p = c .before .before .before .before .pre .1 .0 in
-      let f = c .before .before .before .before .args .fresh in
-      let w = conditional-view p (c .before .before .before .before .pre .1 .1) in
-      (omega (arith, c .before .before .before .before .pre .0, opened p .level-left), placed p (w .first))
+      let b = c .before .before .before .before in
+      let p = b .pre .1 .0 in
+      let w = conditional-view p (b .pre .1 .1) in
+      (omega (arith, b .pre .0, opened p .level-left), placed p (w .first))
 
-  conditional-value-expression-requires-2 : conditional-lts.Need-value-expression-requires-2 (conditional-calls t) (conditional-at t) conditional.Post
+  conditional-value-expression-requires-2 :
+      conditional-lts.Need-value-expression-requires-2 (conditional-calls t) (conditional-at t) conditional.Post
   conditional-value-expression-requires-2 c κs =
-      let p = c .before .before .before .before .before .pre .1 .0 in
-      let f = c .before .before .before .before .before .args .fresh in
-      let w = conditional-view p (c .before .before .before .before .before .pre .1 .1) in
-      (omega (arith, c .before .before .before .before .before .pre .0, opened p .level-left), placed p (after-value p f (w .first) (c .value-expression .ensures) (w .second)))
+      let b = c .before .before .before .before .before in
+      let p = b .pre .1 .0 in
+      let w = conditional-view p (b .pre .1 .1) in (
+        omega (arith, b .pre .0, opened p .level-left),
+        placed p (after-value p (b .args .fresh) (w .first) (c .value-expression .ensures) (w .second)),
+      )
 
-  conditional-value-expression-requires-3 : conditional-lts.Need-value-expression-requires-3 (conditional-calls t) (conditional-at t) conditional.Post
+  conditional-value-expression-requires-3 :
+      conditional-lts.Need-value-expression-requires-3 (conditional-calls t) (conditional-at t) conditional.Post
   conditional-value-expression-requires-3 c κs =
-      let p = c .before .before .before .before .before .before .pre .1 .0 in
-      let f = c .before .before .before .before .before .before .args .fresh in
-      let w = conditional-view p (c .before .before .before .before .before .before .pre .1 .1) in
-      (omega (arith, c .before .before .before .before .before .before .pre .0, opened p .level-left), placed p (after-value p f (after-value p f (w .first) (c .before .value-expression .ensures) (w .second)) (c .value-expression2 .ensures) (w .third)))
+      let b = c .before .before .before .before .before .before in
+      let p = b .pre .1 .0 in
+      let w = conditional-view p (b .pre .1 .1) in
+      let second = after-value p (b .args .fresh) (w .first) (c .before .value-expression .ensures) (w .second) in (
+        omega (arith, b .pre .0, opened p .level-left),
+        placed p (after-value p (b .args .fresh) second (c .value-expression2 .ensures) (w .third)),
+      )
 
   conditional-conditional-requires : conditional-lts.Need-conditional-requires (conditional-calls t) (conditional-at t) conditional.Post
   conditional-conditional-requires c κs = search needs
 
   conditional-returns : conditional-lts.Need-returns (conditional-calls t) (conditional-at t) conditional.Post
   conditional-returns c =
-      λ p. conditional-answer p (c .before .before .before .before .before .before .before .before .args .fresh) (c .before .before .before .before .before .before .before .before .pre .1 .1) (c .before .before .before .value-expression .ensures) (c .before .before .value-expression2 .ensures)
+      let b = c .before .before .before .before .before .before .before .before in
+      λ p. conditional-answer p (b .args .fresh) (b .pre .1 .1) (c .before .before .before .value-expression .ensures)
+      (c .before .before .value-expression2 .ensures)
       (c .before .value-expression3 .ensures) (c .conditional .ensures)
 
-  expression-shared-slice-read-match : expression-lts.Need-shared-slice-read-match (expression-calls t) (expression-at t) expression.Post
+  expression-shared-slice-read-match :
+      expression-lts.Need-shared-slice-read-match (expression-calls t) (expression-at t) expression.Post
   expression-shared-slice-read-match c = opened (c .before .before .before .before .before .pre .1) .good .starts
 
-  expression-value-conditional-requires : expression-lts.Need-value-conditional-requires (expression-calls t) (expression-at t) expression.Post
-  expression-value-conditional-requires c κs = (omega (arith, c .before .before .before .before .before .before .pre .0), (c .before .before .before .before .before .before .pre .1, c .match .keys1))
+  expression-value-conditional-requires :
+      expression-lts.Need-value-conditional-requires (expression-calls t) (expression-at t) expression.Post
+  expression-value-conditional-requires c κs =
+      let b = c .before .before .before .before .before .before in
+      (omega (arith, b .pre .0), (b .pre .1, c .match .keys1))
 
   expression-value-present-requires : expression-lts.Need-value-present-requires (expression-calls t) (expression-at t) expression.Post
-  expression-value-present-requires c κs = (omega (arith, c .before .before .before .before .before .before .pre .0), (c .before .before .before .before .before .before .pre .1, c .match .keys2))
+  expression-value-present-requires c κs =
+      let b = c .before .before .before .before .before .before in
+      (omega (arith, b .pre .0), (b .pre .1, c .match .keys2))
 
   expression-value-reset-requires : expression-lts.Need-value-reset-requires (expression-calls t) (expression-at t) expression.Post
-  expression-value-reset-requires c κs = (omega (arith, c .before .before .before .before .before .before .pre .0), (c .before .before .before .before .before .before .pre .1, c .match .keys3))
+  expression-value-reset-requires c κs =
+      let b = c .before .before .before .before .before .before in
+      (omega (arith, b .pre .0), (b .pre .1, c .match .keys3))
 
   expression-value-leaf-requires : expression-lts.Need-value-leaf-requires (expression-calls t) (expression-at t) expression.Post
   expression-value-leaf-requires c κs = (c .before .before .before .before .before .before .before .pre .1, search needs)
 
-  expression-value-operation-requires : expression-lts.Need-value-operation-requires (expression-calls t) (expression-at t) expression.Post
-  expression-value-operation-requires c κs = (omega (arith, c .before .before .before .before .before .before .before .before .pre .0), (c .before .before .before .before .before .before .before .before .pre .1, search needs))
+  expression-value-operation-requires :
+      expression-lts.Need-value-operation-requires (expression-calls t) (expression-at t) expression.Post
+  expression-value-operation-requires c κs =
+      let b = c .before .before .before .before .before .before .before .before in
+      (omega (arith, b .pre .0), (b .pre .1, search needs))
 
   expression-value-pre-requires : expression-lts.Need-value-pre-requires (expression-calls t) (expression-at t) expression.Post
   expression-value-pre-requires c κs = (c .before .before .before .before .before .before .before .before .before .pre .1, search needs)
 
   expression-value-fby-requires : expression-lts.Need-value-fby-requires (expression-calls t) (expression-at t) expression.Post
-  expression-value-fby-requires c κs = (omega (arith, c .before .before .before .before .before .before .before .before .before .pre .0), (c .before .before .before .before .before .before .before .before .before .pre .1, omega (arith, opened (c .before .before .before .before .before .before .before .before .before .pre .1) .good .kind)))
+  expression-value-fby-requires c κs =
+      let b = c .before .before .before .before .before .before .before .before .before in
+      (omega (arith, b .pre .0), (b .pre .1, omega (arith, opened (b .pre .1) .good .kind)))
 
   expression-returns : expression-lts.Need-returns (expression-calls t) (expression-at t) expression.Post
   expression-returns c = c .value-conditional .ensures
@@ -263,7 +286,9 @@ module _ (t : ℕ) where
   fby-add-inner c = omega (arith, opened (c .before .before .before .before .pre .1 .0) .good .cells)
 
   fby-cell-at-requires : fby-lts.Need-cell-at-requires (fby-calls t) (fby-at t) fby.Post
-  fby-cell-at-requires c κs = own-cell (c .before .before .before .before .pre .1 .0) (omega (arith, c .before .before .before .before .pre .1 .1)) .stands .fits
+  fby-cell-at-requires c κs =
+      let b = c .before .before .before .before in
+      own-cell (b .pre .1 .0) (omega (arith, b .pre .1 .1)) .stands .fits
 
   fby-started-requires : fby-lts.Need-started-requires (fby-calls t) (fby-at t) fby.Post
   fby-started-requires c κs = search needs
@@ -276,40 +301,44 @@ module _ (t : ℕ) where
 
   fby-value-expression-requires : fby-lts.Need-value-expression-requires (fby-calls t) (fby-at t) fby.Post
   fby-value-expression-requires c κs =
-      let p = c .before .before .before .before .before .before .before .before .pre .1 .0 in
-      let f = c .before .before .before .before .before .before .before .before .args .fresh in
-      let w = fby-view p (c .before .before .before .before .before .before .before .before .pre .1 .1) in
-      (omega (arith, c .before .before .before .before .before .before .before .before .pre .0, opened p .level-left), placed p (w .first))
+      let b = c .before .before .before .before .before .before .before .before in
+      let p = b .pre .1 .0 in
+      let w = fby-view p (b .pre .1 .1) in
+      (omega (arith, b .pre .0, opened p .level-left), placed p (w .first))
 
   fby-skip-requires : fby-lts.Need-skip-requires (fby-calls t) (fby-at t) fby.Post
   fby-skip-requires c κs =
-      let p = c .before .before .before .before .before .before .before .before .before .pre .1 .0 in
-      let f = c .before .before .before .before .before .before .before .before .before .args .fresh in
-      let w = fby-view p (c .before .before .before .before .before .before .before .before .before .pre .1 .1) in
-      readable p (after-value p f (w .first) (c .value-expression .ensures) (w .second))
+      let b = c .before .before .before .before .before .before .before .before .before in
+      let p = b .pre .1 .0 in
+      let w = fby-view p (b .pre .1 .1) in
+      readable p (after-value p (b .args .fresh) (w .first) (c .value-expression .ensures) (w .second))
 
   fby-returns : fby-lts.Need-returns (fby-calls t) (fby-at t) fby.Post
   fby-returns c =
-      λ p. fby-answer-left p (c .before .before .before .before .before .before .before .before .before .before .args .fresh) (c .before .before .before .before .before .before .before .before .before .before .pre .1 .1) (c .before .before .before .before .before .cell-at .ensures) (c .before .before .before .before .started .ensures)
+      let b = c .before .before .before .before .before .before .before .before .before .before in
+      λ p. fby-answer-left p (b .args .fresh) (b .pre .1 .1) (c .before .before .before .before .before .cell-at .ensures)
+      (c .before .before .before .before .started .ensures)
       (c .before .before .enum-told .given .1) (c .before .value-expression .ensures) (c .skip .ensures)
 
   fby-skip-requires-2 : fby-lts.Need-skip-requires-2 (fby-calls t) (fby-at t) fby.Post
   fby-skip-requires-2 c κs =
-      let p = c .before .before .before .before .before .before .before .before .before .pre .1 .0 in
-      let f = c .before .before .before .before .before .before .before .before .before .args .fresh in
-      let w = fby-view p (c .before .before .before .before .before .before .before .before .before .pre .1 .1) in
+      let b = c .before .before .before .before .before .before .before .before .before in
+      let p = b .pre .1 .0 in
+      let w = fby-view p (b .pre .1 .1) in
       readable p (w .first)
 
   fby-skip-requires-3 : fby-lts.Need-skip-requires-3 (fby-calls t) (fby-at t) fby.Post
   fby-skip-requires-3 c κs =
-      let p = c .before .before .before .before .before .before .before .before .before .before .pre .1 .0 in
-      let f = c .before .before .before .before .before .before .before .before .before .before .args .fresh in
-      let w = fby-view p (c .before .before .before .before .before .before .before .before .before .before .pre .1 .1) in
+      let b = c .before .before .before .before .before .before .before .before .before .before in
+      let p = b .pre .1 .0 in
+      let w = fby-view p (b .pre .1 .1) in
       readable p (after-walk p (w .first) (c .skip2 .ensures) (w .second))
 
   fby-returns-2 : fby-lts.Need-returns-2 (fby-calls t) (fby-at t) fby.Post
   fby-returns-2 c =
-      λ p. fby-answer-held p (c .before .before .before .before .before .before .before .before .before .before .before .args .fresh) (c .before .before .before .before .before .before .before .before .before .before .before .pre .1 .1) (c .before .before .before .before .before .before .cell-at .ensures) (c .before .before .before .before .before .started .ensures)
+      let b = c .before .before .before .before .before .before .before .before .before .before .before in
+      λ p. fby-answer-held p (b .args .fresh) (b .pre .1 .1) (c .before .before .before .before .before .before .cell-at .ensures)
+      (c .before .before .before .before .before .started .ensures)
       (c .before .before .before .seen .given .1) (c .before .skip2 .ensures) (c .skip3 .ensures)
 
   operation-shared-slice-read-kind : operation-lts.Need-shared-slice-read-kind (operation-calls t) (operation-at t) operation.Post
@@ -324,38 +353,50 @@ module _ (t : ℕ) where
   operation-add-first : operation-lts.Need-add-first (operation-calls t) (operation-at t) operation.Post
   operation-add-first c = omega (arith, opened (c .before .before .before .before .before .before .pre .1 .0) .good .starts)
 
-  operation-array-read-value-expression : operation-lts.Need-array-read-value-expression (operation-calls t) (operation-at t) operation.Post
+  operation-array-read-value-expression :
+      operation-lts.Need-array-read-value-expression (operation-calls t) (operation-at t) operation.Post
   operation-array-read-value-expression c = search needs
 
   operation-value-expression-requires : operation-lts.Need-value-expression-requires (operation-calls t) (operation-at t) operation.Post
   operation-value-expression-requires c κs =
-      let p = c .before .before .before .before .before .before .pre .1 .0 in
-      (omega (arith, c .before .before .before .before .before .before .pre .0, opened p .level-left), placed p (operation-first p _ (c .operand-types .ensures) (c .before .before .before .before .before .before .pre .1 .1 .0) (c .before .before .before .before .before .before .pre .1 .1 .1)))
+      let b = c .before .before .before .before .before .before in
+      let p = b .pre .1 .0 in (
+        omega (arith, b .pre .0, opened p .level-left),
+        placed p (operation-first p _ (c .operand-types .ensures) (b .pre .1 .1 .0) (b .pre .1 .1 .1)),
+      )
 
   operation-unary-requires : operation-lts.Need-unary-requires (operation-calls t) (operation-at t) operation.Post
   operation-unary-requires c κs = search needs
 
   operation-returns : operation-lts.Need-returns (operation-calls t) (operation-at t) operation.Post
   operation-returns c =
-      λ p. unary-answer p (c .before .before .before .before .before .before .before .before .before .args .fresh) _ (c .before .before .before .operand-types .ensures) (c .before .before .before .before .before .before .before .before .before .pre .1 .1 .0) (c .before .if1 .taken)
+      let b = c .before .before .before .before .before .before .before .before .before in
+      λ p. unary-answer p (b .args .fresh) _ (c .before .before .before .operand-types .ensures) (b .pre .1 .1 .0)
+      (c .before .if1 .taken)
       (c .before .before .value-expression .ensures) (c .unary .ensures)
 
-  operation-array-read-value-expression-2 : operation-lts.Need-array-read-value-expression-2 (operation-calls t) (operation-at t) operation.Post
+  operation-array-read-value-expression-2 :
+      operation-lts.Need-array-read-value-expression-2 (operation-calls t) (operation-at t) operation.Post
   operation-array-read-value-expression-2 c = search needs
 
-  operation-value-expression-requires-2 : operation-lts.Need-value-expression-requires-2 (operation-calls t) (operation-at t) operation.Post
+  operation-value-expression-requires-2 :
+      operation-lts.Need-value-expression-requires-2 (operation-calls t) (operation-at t) operation.Post
   operation-value-expression-requires-2 c κs =
-      let p = c .before .before .before .before .before .before .before .before .pre .1 .0 in
-      let f = c .before .before .before .before .before .before .before .before .args .fresh in
-      let w = binary-view p _ (c .before .before .operand-types .ensures) (c .if1 .left) (c .before .before .before .before .before .before .before .before .pre .1 .1 .1) in
-      (omega (arith, c .before .before .before .before .before .before .before .before .pre .0, opened p .level-left), placed p (after-value p f (w .first) (c .before .value-expression .ensures) (w .second)))
+      let b = c .before .before .before .before .before .before .before .before in
+      let p = b .pre .1 .0 in
+      let w = binary-view p _ (c .before .before .operand-types .ensures) (c .if1 .left) (b .pre .1 .1 .1) in (
+        omega (arith, b .pre .0, opened p .level-left),
+        placed p (after-value p (b .args .fresh) (w .first) (c .before .value-expression .ensures) (w .second)),
+      )
 
   operation-binary-requires : operation-lts.Need-binary-requires (operation-calls t) (operation-at t) operation.Post
   operation-binary-requires c κs = search needs
 
   operation-returns-2 : operation-lts.Need-returns-2 (operation-calls t) (operation-at t) operation.Post
   operation-returns-2 c =
-      λ p. binary-answer p (c .before .before .before .before .before .before .before .before .before .before .args .fresh) _ (c .before .before .before .before .operand-types .ensures) (c .before .before .if1 .left) (c .before .before .before .before .before .before .before .before .before .before .pre .1 .1 .1)
+      let b = c .before .before .before .before .before .before .before .before .before .before in
+      λ p. binary-answer p (b .args .fresh) _ (c .before .before .before .before .operand-types .ensures)
+      (c .before .before .if1 .left) (b .pre .1 .1 .1)
       (c .before .before .before .value-expression .ensures) (c .before .value-expression2 .ensures) (c .binary .ensures)
 
   present-sub-below : present-lts.Need-sub-below (present-calls t) (present-at t) present.Post
@@ -366,67 +407,84 @@ module _ (t : ℕ) where
 
   present-value-expression-requires : present-lts.Need-value-expression-requires (present-calls t) (present-at t) present.Post
   present-value-expression-requires c κs =
-      let p = c .before .before .before .before .pre .1 .0 in
-      let f = c .before .before .before .before .args .fresh in
-      let w = present-view p (c .before .before .before .before .pre .1 .1) in
-      (omega (arith, c .before .before .before .before .pre .0, opened p .level-left), placed p (w .first))
+      let b = c .before .before .before .before in
+      let p = b .pre .1 .0 in
+      let w = present-view p (b .pre .1 .1) in
+      (omega (arith, b .pre .0, opened p .level-left), placed p (w .first))
 
   present-is-true-requires : present-lts.Need-is-true-requires (present-calls t) (present-at t) present.Post
   present-is-true-requires c κs = search needs
 
   present-value-expression-requires-2 : present-lts.Need-value-expression-requires-2 (present-calls t) (present-at t) present.Post
   present-value-expression-requires-2 c κs =
-      let p = c .before .before .before .before .before .before .before .pre .1 .0 in
-      let f = c .before .before .before .before .before .before .before .args .fresh in
-      let w = present-view p (c .before .before .before .before .before .before .before .pre .1 .1) in
-      (omega (arith, c .before .before .before .before .before .before .before .pre .0, opened p .level-left), placed p (after-value p f (w .first) (c .before .before .value-expression .ensures) (w .second)))
+      let b = c .before .before .before .before .before .before .before in
+      let p = b .pre .1 .0 in
+      let w = present-view p (b .pre .1 .1) in (
+        omega (arith, b .pre .0, opened p .level-left),
+        placed p (after-value p (b .args .fresh) (w .first) (c .before .before .value-expression .ensures) (w .second)),
+      )
 
   present-skip-requires : present-lts.Need-skip-requires (present-calls t) (present-at t) present.Post
   present-skip-requires c κs =
-      let p = c .before .before .before .before .before .before .before .before .pre .1 .0 in
-      let f = c .before .before .before .before .before .before .before .before .args .fresh in
-      let w = present-view p (c .before .before .before .before .before .before .before .before .pre .1 .1) in
-      readable p (after-value p f (after-value p f (w .first) (c .before .before .before .value-expression .ensures) (w .second)) (c .value-expression2 .ensures) (w .third))
+      let b = c .before .before .before .before .before .before .before .before in
+      let p = b .pre .1 .0 in
+      let w = present-view p (b .pre .1 .1) in
+      let second = after-value p (b .args .fresh) (w .first) (c .before .before .before .value-expression .ensures) (w .second) in
+      readable p (after-value p (b .args .fresh) second (c .value-expression2 .ensures) (w .third))
 
   present-returns : present-lts.Need-returns (present-calls t) (present-at t) present.Post
   present-returns c =
-      λ p. present-answer-first p (c .before .before .before .before .before .before .before .before .before .args .fresh) (c .before .before .before .before .before .before .before .before .before .pre .1 .1) (c .before .before .before .before .value-expression .ensures)
-      (sym (c .before .before .before .is-true .ensures) ∙ c .before .before .if1 .taken) (c .before .value-expression2 .ensures) (c .skip .ensures)
+      let b = c .before .before .before .before .before .before .before .before .before in
+      λ p. present-answer-first p (b .args .fresh) (b .pre .1 .1) (c .before .before .before .before .value-expression .ensures)
+      (sym (c .before .before .before .is-true .ensures) ∙ c .before .before .if1 .taken) (c .before .value-expression2 .ensures)
+      (c .skip .ensures)
 
   present-skip-requires-2 : present-lts.Need-skip-requires-2 (present-calls t) (present-at t) present.Post
   present-skip-requires-2 c κs =
-      let p = c .before .before .before .before .before .before .before .pre .1 .0 in
-      let f = c .before .before .before .before .before .before .before .args .fresh in
-      let w = present-view p (c .before .before .before .before .before .before .before .pre .1 .1) in
-      readable p (after-value p f (w .first) (c .before .before .value-expression .ensures) (w .second))
+      let b = c .before .before .before .before .before .before .before in
+      let p = b .pre .1 .0 in
+      let w = present-view p (b .pre .1 .1) in
+      readable p (after-value p (b .args .fresh) (w .first) (c .before .before .value-expression .ensures) (w .second))
 
   present-is-unknown-requires : present-lts.Need-is-unknown-requires (present-calls t) (present-at t) present.Post
   present-is-unknown-requires c κs = search needs
 
   present-skip-requires-3 : present-lts.Need-skip-requires-3 (present-calls t) (present-at t) present.Post
   present-skip-requires-3 c κs =
-      let p = c .before .before .before .before .before .before .before .before .before .before .pre .1 .0 in
-      let f = c .before .before .before .before .before .before .before .before .before .before .args .fresh in
-      let w = present-view p (c .before .before .before .before .before .before .before .before .before .before .pre .1 .1) in
-      readable p (after-walk p (after-value p f (w .first) (c .before .before .before .before .before .value-expression .ensures) (w .second)) (c .before .before .skip2 .ensures) (w .third))
+      let b = c .before .before .before .before .before .before .before .before .before .before in
+      let p = b .pre .1 .0 in
+      let w = present-view p (b .pre .1 .1) in
+      let second = after-value p (b .args .fresh) (w .first) (c .before .before .before .before .before .value-expression .ensures)
+      (w .second) in
+      readable p (after-walk p second (c .before .before .skip2 .ensures) (w .third))
 
   present-returns-2 : present-lts.Need-returns-2 (present-calls t) (present-at t) present.Post
   present-returns-2 c =
-      λ p. present-answer-unknown p (c .before .before .before .before .before .before .before .before .before .before .before .args .fresh) (c .before .before .before .before .before .before .before .before .before .before .before .pre .1 .1) (c .before .before .before .before .before .before .value-expression .ensures)
-      (sym (c .before .before .is-unknown .ensures) ∙ c .before .if2 .taken) (c .before .before .before .skip2 .ensures) (c .skip3 .ensures)
+      let b = c .before .before .before .before .before .before .before .before .before .before .before in
+      λ p. present-answer-unknown p (b .args .fresh) (b .pre .1 .1)
+      (c .before .before .before .before .before .before .value-expression .ensures)
+      (sym (c .before .before .is-unknown .ensures) ∙ c .before .if2 .taken) (c .before .before .before .skip2 .ensures)
+      (c .skip3 .ensures)
 
   present-value-expression-requires-3 : present-lts.Need-value-expression-requires-3 (present-calls t) (present-at t) present.Post
   present-value-expression-requires-3 c κs =
-      let p = c .before .before .before .before .before .before .before .before .before .before .pre .1 .0 in
-      let f = c .before .before .before .before .before .before .before .before .before .before .args .fresh in
-      let w = present-view p (c .before .before .before .before .before .before .before .before .before .before .pre .1 .1) in
-      (omega (arith, c .before .before .before .before .before .before .before .before .before .before .pre .0, opened p .level-left), placed p (after-walk p (after-value p f (w .first) (c .before .before .before .before .before .value-expression .ensures) (w .second)) (c .before .before .skip2 .ensures) (w .third)))
+      let b = c .before .before .before .before .before .before .before .before .before .before in
+      let p = b .pre .1 .0 in
+      let w = present-view p (b .pre .1 .1) in
+      let second = after-value p (b .args .fresh) (w .first) (c .before .before .before .before .before .value-expression .ensures)
+      (w .second) in (
+        omega (arith, b .pre .0, opened p .level-left),
+        placed p (after-walk p second (c .before .before .skip2 .ensures) (w .third)),
+      )
 
   present-returns-3 : present-lts.Need-returns-3 (present-calls t) (present-at t) present.Post
   present-returns-3 c =
-      λ p. present-answer-second p (c .before .before .before .before .before .before .before .before .before .before .before .args .fresh) (c .before .before .before .before .before .before .before .before .before .before .before .pre .1 .1) (c .before .before .before .before .before .before .value-expression .ensures)
-      (sym (c .before .before .before .before .before .is-true .ensures) ∙ c .before .before .before .before .if1 .left) (sym (c .before .before .is-unknown .ensures) ∙ c .before .if2 .left)
-      (c .before .before .before .skip2 .ensures) (c .value-expression3 .ensures)
+      let b = c .before .before .before .before .before .before .before .before .before .before .before in
+      λ p. present-answer-second p (b .args .fresh) (b .pre .1 .1)
+      (c .before .before .before .before .before .before .value-expression .ensures)
+      (sym (c .before .before .before .before .before .is-true .ensures) ∙ c .before .before .before .before .if1 .left)
+      (sym (c .before .before .is-unknown .ensures) ∙ c .before .if2 .left) (c .before .before .before .skip2 .ensures)
+      (c .value-expression3 .ensures)
 
   reset-sub-below : reset-lts.Need-sub-below (reset-calls t) (reset-at t) reset.Post
   reset-sub-below c = opened (c .before .before .before .before .pre .1 .0) .level-left
@@ -436,24 +494,25 @@ module _ (t : ℕ) where
 
   reset-value-expression-requires : reset-lts.Need-value-expression-requires (reset-calls t) (reset-at t) reset.Post
   reset-value-expression-requires c κs =
-      let p = c .before .before .before .before .pre .1 .0 in
-      let f = c .before .before .before .before .args .fresh in
-      let w = reset-view p (c .before .before .before .before .pre .1 .1) in
-      (omega (arith, c .before .before .before .before .pre .0, opened p .level-left), placed p (w .first))
+      let b = c .before .before .before .before in
+      let p = b .pre .1 .0 in
+      let w = reset-view p (b .pre .1 .1) in
+      (omega (arith, b .pre .0, opened p .level-left), placed p (w .first))
 
   reset-is-unknown-requires : reset-lts.Need-is-unknown-requires (reset-calls t) (reset-at t) reset.Post
   reset-is-unknown-requires c κs = search needs
 
   reset-skip-requires : reset-lts.Need-skip-requires (reset-calls t) (reset-at t) reset.Post
   reset-skip-requires c κs =
-      let p = c .before .before .before .before .before .before .before .pre .1 .0 in
-      let f = c .before .before .before .before .before .before .before .args .fresh in
-      let w = reset-view p (c .before .before .before .before .before .before .before .pre .1 .1) in
-      readable p (after-value p f (w .first) (c .before .before .value-expression .ensures) (w .second))
+      let b = c .before .before .before .before .before .before .before in
+      let p = b .pre .1 .0 in
+      let w = reset-view p (b .pre .1 .1) in
+      readable p (after-value p (b .args .fresh) (w .first) (c .before .before .value-expression .ensures) (w .second))
 
   reset-returns : reset-lts.Need-returns (reset-calls t) (reset-at t) reset.Post
   reset-returns c =
-      λ p. reset-answer-unknown p (c .before .before .before .before .before .before .before .before .args .fresh) (c .before .before .before .before .before .before .before .before .pre .1 .1) (c .before .before .before .value-expression .ensures)
+      let b = c .before .before .before .before .before .before .before .before in
+      λ p. reset-answer-unknown p (b .args .fresh) (b .pre .1 .1) (c .before .before .before .value-expression .ensures)
       (sym (c .before .before .is-unknown .ensures) ∙ c .before .if1 .taken) (c .skip .ensures)
 
   reset-is-true-requires : reset-lts.Need-is-true-requires (reset-calls t) (reset-at t) reset.Post
@@ -461,15 +520,19 @@ module _ (t : ℕ) where
 
   reset-value-expression-requires-2 : reset-lts.Need-value-expression-requires-2 (reset-calls t) (reset-at t) reset.Post
   reset-value-expression-requires-2 c κs =
-      let p = c .before .before .before .before .before .before .before .before .pre .1 .0 in
-      let f = c .before .before .before .before .before .before .before .before .args .fresh in
-      let w = reset-view p (c .before .before .before .before .before .before .before .before .pre .1 .1) in
-      (omega (arith, c .before .before .before .before .before .before .before .before .pre .0, opened p .level-left), placed p (after-value p f (w .first) (c .before .before .before .value-expression .ensures) (w .second)))
+      let b = c .before .before .before .before .before .before .before .before in
+      let p = b .pre .1 .0 in
+      let w = reset-view p (b .pre .1 .1) in (
+        omega (arith, b .pre .0, opened p .level-left),
+        placed p (after-value p (b .args .fresh) (w .first) (c .before .before .before .value-expression .ensures) (w .second)),
+      )
 
   reset-returns-2 : reset-lts.Need-returns-2 (reset-calls t) (reset-at t) reset.Post
   reset-returns-2 c =
-      λ p. reset-answer p (c .before .before .before .before .before .before .before .before .before .args .fresh) (c .before .before .before .before .before .before .before .before .before .pre .1 .1) (c .before .before .before .before .value-expression .ensures)
-      (sym (c .before .before .before .is-unknown .ensures) ∙ c .before .before .if1 .left) (c .before .is-true .ensures) (c .value-expression2 .ensures)
+      let b = c .before .before .before .before .before .before .before .before .before in
+      λ p. reset-answer p (b .args .fresh) (b .pre .1 .1) (c .before .before .before .before .value-expression .ensures)
+      (sym (c .before .before .before .is-unknown .ensures) ∙ c .before .before .if1 .left) (c .before .is-true .ensures)
+      (c .value-expression2 .ensures)
 
 pub +value-conditional+value-expression+value-fby+value-operation+value-present+value-reset-spec : {M : Type 1} → statement M
 +value-conditional+value-expression+value-fby+value-operation+value-present+value-reset-spec =

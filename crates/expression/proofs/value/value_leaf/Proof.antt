@@ -1,6 +1,4 @@
 -- `value_leaf` meets its contract.
-use Prim.Native.Nat.{_+_}
-use mathlib.Core.Path.{_≡_}
 use native.Mathlib.Omega.{arith}
 use borrow.Author.Needs.{needs}
 use Rattle.expression.proofs.Views.{opened, whole, wire-view, input-view}
@@ -27,7 +25,9 @@ datum-of-requires : tie.Need-datum-of-requires
 datum-of-requires c κs = search needs
 
 returns : tie.Need-returns
-returns c = λ p. constant-answer p (c .before .before .before .before .before .before .before .before .before .args .fresh) (c .before .before .before .body-at .ensures) (c .before .before .body .ensures)
+returns c =
+    let b = c .before .before .before .before .before .before .before .before .before in
+    λ p. constant-answer p (b .args .fresh) (c .before .before .before .body-at .ensures) (c .before .before .body .ensures)
     (c .before .if1 .taken) (c .datum-of .ensures)
 
 cast-named : tie.Need-cast-named
@@ -42,18 +42,23 @@ value-wire-requires c κs =
     )
 
 returns-2 : tie.Need-returns-2
-returns-2 c = λ p. wire-answer p (c .before .before .before .before .before .before .before .before .before .before .args .fresh) (c .before .before .before .before .body-at .ensures)
+returns-2 c =
+    let b = c .before .before .before .before .before .before .before .before .before .before in
+    λ p. wire-answer p (b .args .fresh) (c .before .before .before .before .body-at .ensures)
     (c .before .before .before .body .ensures) (c .before .if2 .taken) (c .value-wire .ensures)
 
 entry-at-requires : tie.Need-entry-at-requires
 entry-at-requires c κs =
-    let p = c .before .before .before .before .before .before .before .before .before .pre .0 in
-    let w = input-view p (omega (arith, c .before .before .before .before .before .before .before .before .before .pre .1)) in
+    let b = c .before .before .before .before .before .before .before .before .before in
+    let p = b .pre .0 in
+    let w = input-view p (omega (arith, b .pre .1)) in
     omega (arith, w .within, p .stands .inputSize, c .before .before .before .body-at .ensures)
 
 returns-3 : tie.Need-returns-3
-returns-3 c = λ p. input-answer p (c .before .before .before .before .before .before .before .before .before .before .args .fresh) (c .before .before .before .before .body-at .ensures)
-    (c .before .before .before .body .ensures) (omega (arith, c .before .before .before .before .before .before .before .before .before .before .pre .1)) (c .entry-at .ensures)
+returns-3 c =
+    let b = c .before .before .before .before .before .before .before .before .before .before in
+    λ p. input-answer p (b .args .fresh) (c .before .before .before .before .body-at .ensures)
+    (c .before .before .before .body .ensures) (omega (arith, b .pre .1)) (c .entry-at .ensures)
 
 pub value-leaf-spec : {M : Type 1} → statement M
 value-leaf-spec =

@@ -1,5 +1,4 @@
 -- `value_pre` meets its contract.
-use Prim.Native.Nat.{_+_}
 use native.Mathlib.Omega.{arith}
 use borrow.Author.Needs.{needs}
 use Rattle.expression.proofs.Views.{opened, whole, readable, pre-view, own-cell}
@@ -29,7 +28,9 @@ datum-of-requires : tie.Need-datum-of-requires
 datum-of-requires c κs = search needs
 
 cell-at-requires : tie.Need-cell-at-requires
-cell-at-requires c κs = own-cell (c .before .before .before .before .before .before .before .before .pre .0) (c .before .before .before .before .before .before .before .before .pre .1 .0) .stands .fits
+cell-at-requires c κs =
+    let p = c .before .before .before .before .before .before .before .before .pre in
+    own-cell (p .0) (p .1 .0) .stands .fits
 
 held-requires : tie.Need-held-requires
 held-requires c κs = search needs
@@ -40,8 +41,11 @@ skip-requires c κs =
     rw (c .before .before .before .before .body .ensures) (readable (p .0) (pre-view (p .0) (p .1 .0) (p .1 .1) .first))
 
 returns : tie.Need-returns
-returns c = λ p. pre-answer p (c .before .before .before .before .before .before .before .before .before .before .before .args .fresh) (c .before .before .before .before .body-at .ensures) (c .before .before .before .before .before .body .ensures)
-    (c .before .before .before .before .before .before .before .before .before .before .before .pre .1 .0) (c .before .before .before .before .before .before .before .before .before .before .before .pre .1 .1) (c .before .before .before .datum-of .ensures) (c .before .before .cell-at .ensures)
+returns c =
+    let b = c .before .before .before .before .before .before .before .before .before .before .before in
+    λ p. pre-answer p (b .args .fresh) (c .before .before .before .before .body-at .ensures)
+    (c .before .before .before .before .before .body .ensures)
+    (b .pre .1 .0) (b .pre .1 .1) (c .before .before .before .datum-of .ensures) (c .before .before .cell-at .ensures)
     (c .before .held .ensures) (c .skip .ensures)
 
 pub value-pre-spec : {M : Type 1} → statement M

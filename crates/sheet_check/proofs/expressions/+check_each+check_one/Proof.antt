@@ -1,7 +1,7 @@
 -- `check_each` and `check_one` meet their contracts. The loop's invariant: what is left of the run reads as the whole run does, and
 -- its forms, recorded from the next cell on, make those of the whole. The level falls from an expression to its operands.
 use Prim.Native.Nat.{ℕ, _<_, _≤_, _+_, _*_, _-_}
-use mathlib.Core.Path.{_≡_, refl, sym, ap, _∙_}
+use mathlib.Core.Path.{_≡_, refl, sym, _∙_}
 use mathlib.Core.List.{List, map}
 use native.Mathlib.Omega.{arith}
 use lib.ListN.{length, drop, drop-of-length-le}
@@ -98,7 +98,8 @@ module _ (t : ℕ) where
 
   refused-length : check-each-lts.Need-same-length (check-each-calls t) (check-each-at t) check-each.Post Inv μ-loop
   refused-length c =
-      let one = c .before .before .before .before in one .check-one .kept .1 .1 .1 .1 .1 .1 .1 .0 ∙ one .before .before .before .before .loop .inv .2
+      let one = c .before .before .before .before in
+      one .check-one .kept .1 .1 .1 .1 .1 .1 .1 .0 ∙ one .before .before .before .before .loop .inv .2
 
   hands-up : check-each-lts.Need-returns (check-each-calls t) (check-each-at t) check-each.Post Inv μ-loop
   hands-up c =
@@ -228,7 +229,8 @@ module _ (t : ℕ) where
       let head = c .before .before .before .before .before .before .before .before .before .before .before in
       let a = head .before .before .before .before .before .before .before .before .before .args in
       let own = sym (head .before .before .before .before .check-own .ensures) ∙ head .before .before .head .given .1 in
-      let each = rw (c .before .before .before .before .before .operands .ensures, c .before .before .before .before .before .before .operand-types .ensures) at (c .before .before .check-each .ensures) in (
+      let operands = c .before .before .before .before .before in
+      let each = rw (operands .operands .ensures, operands .before .operand-types .ensures) at (c .before .before .check-each .ensures) in (
         each .0 ∙ by-operands (a .inputs .now) (a .wires .now) (a .sheet .now) (a .asked) (a .at) (a .cells) (a .level)
             (head-good head .levels) own,
         whole-recorded (a .inputs .now) (a .wires .now) (a .sheet .now) (a .level) (a .asked) (a .at) (a .cells) own

@@ -1,7 +1,5 @@
 -- `record_form` meets its contract: the byte that is stored, if any, is that of the form that the kind owns.
-use Prim.Native.Nat.{_+_}
 use mathlib.Core.Path.{sym, ap, _∙_}
-use mathlib.Core.List.{[], _∷_}
 use lib.Seq.{sets}
 use borrow.Author.Needs.{needs}
 use Rattle.sheet_check.proofs.Forms.{own-none, own-fby, own-pre}

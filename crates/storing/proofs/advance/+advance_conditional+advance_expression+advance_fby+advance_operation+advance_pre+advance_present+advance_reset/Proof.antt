@@ -1,7 +1,7 @@
 -- The functions that advance an expression meet their contracts. The level falls from an expression to its operands; an expression
 -- goes by its kind at the same level.
 use Prim.Native.Nat.{ℕ, _<_, _+_, _*_}
-use mathlib.Core.Path.{_≡_, sym, _∙_}
+use mathlib.Core.Path.{sym, _∙_}
 use native.Mathlib.Omega.{arith}
 use borrow.Author.Needs.{needs}
 use borrow.Fn.Kinds.{In}
@@ -219,64 +219,97 @@ module _ (t : ℕ) where
   conditional-add-first : conditional-lts.Need-add-first (conditional-calls t) (conditional-at t) conditional.Post
   conditional-add-first c = omega (arith, opened (c .before .before .before .before .pre .1 .0 .place) .good .starts)
 
-  conditional-advance-expression-requires : conditional-lts.Need-advance-expression-requires (conditional-calls t) (conditional-at t) conditional.Post
+  conditional-advance-expression-requires :
+      conditional-lts.Need-advance-expression-requires (conditional-calls t) (conditional-at t) conditional.Post
   conditional-advance-expression-requires c κs =
-      let p = c .before .before .before .before .before .pre .1 .0 in
-      let w = conditional-view (p .place) (c .before .before .before .before .before .pre .1 .1) in
-      (omega (arith, c .before .before .before .before .before .pre .0, opened (p .place) .level-left), three-ready p w)
+      let start = c .before .before .before .before .before in
+      let p = start .pre .1 .0 in
+      let w = conditional-view (p .place) (start .pre .1 .1) in
+      (omega (arith, start .pre .0, opened (p .place) .level-left), three-ready p w)
 
-  conditional-advance-expression-requires-2 : conditional-lts.Need-advance-expression-requires-2 (conditional-calls t) (conditional-at t) conditional.Post
+  conditional-advance-expression-requires-2 :
+      conditional-lts.Need-advance-expression-requires-2 (conditional-calls t) (conditional-at t) conditional.Post
   conditional-advance-expression-requires-2 c κs =
-      let p = c .before .before .before .before .before .before .before .before .before .pre .1 .0 in
-      let w = conditional-view (p .place) (c .before .before .before .before .before .before .before .before .before .pre .1 .1) in
-      (omega (arith, c .before .before .before .before .before .before .before .before .before .pre .0, opened (p .place) .level-left), three-ready-2 p w (c .before .before .before .advance-expression .ensures))
+      let first = c .before .before .before in
+      let start = first .before .before .before .before .before .before in
+      let p = start .pre .1 .0 in
+      let w = conditional-view (p .place) (start .pre .1 .1) in
+      (omega (arith, start .pre .0, opened (p .place) .level-left), three-ready-2 p w (first .advance-expression .ensures))
 
-  conditional-advance-expression-requires-3 : conditional-lts.Need-advance-expression-requires-3 (conditional-calls t) (conditional-at t) conditional.Post
+  conditional-advance-expression-requires-3 :
+      conditional-lts.Need-advance-expression-requires-3 (conditional-calls t) (conditional-at t) conditional.Post
   conditional-advance-expression-requires-3 c κs =
-      let p = c .before .before .before .before .before .before .before .before .before .before .before .before .before .pre .1 .0 in
-      let w = conditional-view (p .place) (c .before .before .before .before .before .before .before .before .before .before .before .before .before .pre .1 .1) in
-      (omega (arith, c .before .before .before .before .before .before .before .before .before .before .before .before .before .pre .0, opened (p .place) .level-left), three-ready-3 p w (c .before .before .before .before .before .before .before .advance-expression .ensures) (c .before .before .before .advance-expression2 .ensures))
+      let second = c .before .before .before in
+      let first = second .before .before .before .before in
+      let start = first .before .before .before .before .before .before in
+      let p = start .pre .1 .0 in
+      let w = conditional-view (p .place) (start .pre .1 .1) in (
+        omega (arith, start .pre .0, opened (p .place) .level-left),
+        three-ready-3 p w
+            (first .advance-expression .ensures) (second .advance-expression2 .ensures),
+      )
 
   conditional-conditional-requires : conditional-lts.Need-conditional-requires (conditional-calls t) (conditional-at t) conditional.Post
   conditional-conditional-requires c κs = search needs
 
   conditional-same-length : conditional-lts.Need-same-length (conditional-calls t) (conditional-at t) conditional.Post
   conditional-same-length c =
-      c .before .before .before .advance-expression3 .kept .1 .1 .0
-      ∙ c .before .before .before .before .before .before .before .advance-expression2 .kept .1 .1 .0
-      ∙ c .before .before .before .before .before .before .before .before .before .before .before .advance-expression .kept .1 .1 .0
+      let third = c .before .before .before in
+      let second = third .before .before .before .before in
+      let first = second .before .before .before .before in
+      third .advance-expression3 .kept .1 .1 .0 ∙ second .advance-expression2 .kept .1 .1 .0 ∙ first .advance-expression .kept .1 .1 .0
 
   conditional-returns : conditional-lts.Need-returns (conditional-calls t) (conditional-at t) conditional.Post
   conditional-returns c =
-      λ p. conditional-advances p (c .before .before .before .before .before .before .before .before .before .before .before .before .before .before .before .before .before .args .fresh) (c .before .before .before .before .before .before .before .before .before .before .before .before .before .before .before .before .before .pre .1 .1)
-      (c .before .before .before .before .before .before .before .before .before .before .before .advance-expression .ensures) (c .before .before .before .before .before .before .before .advance-expression2 .ensures) (c .before .before .before .advance-expression3 .ensures)
+      let third = c .before .before .before in
+      let second = third .before .before .before .before in
+      let first = second .before .before .before .before in
+      let start = first .before .before .before .before .before .before in
+      λ p. conditional-advances p (start .args .fresh) (start .pre .1 .1)
+      (first .advance-expression .ensures) (second .advance-expression2 .ensures) (third .advance-expression3 .ensures)
       (c .conditional .ensures)
 
   expression-shared-slice-read-match : expression-lts.Need-shared-slice-read-match (expression-calls t) (expression-at t) expression.Post
   expression-shared-slice-read-match c = opened (c .before .before .before .before .before .pre .1 .place) .good .starts
 
-  expression-advance-conditional-requires : expression-lts.Need-advance-conditional-requires (expression-calls t) (expression-at t) expression.Post
-  expression-advance-conditional-requires c κs = (omega (arith, c .before .before .before .before .before .before .before .pre .0), (c .before .before .before .before .before .before .before .pre .1, c .before .match .keys1))
+  expression-advance-conditional-requires :
+      expression-lts.Need-advance-conditional-requires (expression-calls t) (expression-at t) expression.Post
+  expression-advance-conditional-requires c κs =
+      let by = c .before in
+      let start = by .before .before .before .before .before .before in
+      (omega (arith, start .pre .0), (start .pre .1, by .match .keys1))
 
   expression-advance-present-requires : expression-lts.Need-advance-present-requires (expression-calls t) (expression-at t) expression.Post
-  expression-advance-present-requires c κs = (omega (arith, c .before .before .before .before .before .before .before .pre .0), (c .before .before .before .before .before .before .before .pre .1, c .before .match .keys2))
+  expression-advance-present-requires c κs =
+      let by = c .before in
+      let start = by .before .before .before .before .before .before in
+      (omega (arith, start .pre .0), (start .pre .1, by .match .keys2))
 
   expression-advance-reset-requires : expression-lts.Need-advance-reset-requires (expression-calls t) (expression-at t) expression.Post
-  expression-advance-reset-requires c κs = (omega (arith, c .before .before .before .before .before .before .before .pre .0), (c .before .before .before .before .before .before .before .pre .1, c .before .match .keys3))
+  expression-advance-reset-requires c κs =
+      let by = c .before in
+      let start = by .before .before .before .before .before .before in
+      (omega (arith, start .pre .0), (start .pre .1, by .match .keys3))
 
-  expression-value-expression-requires : expression-lts.Need-value-expression-requires (expression-calls t) (expression-at t) expression.Post
+  expression-value-expression-requires :
+      expression-lts.Need-value-expression-requires (expression-calls t) (expression-at t) expression.Post
   expression-value-expression-requires c κs = c .before .before .before .before .before .before .before .before .pre .1 .place
 
-  expression-advance-operation-requires : expression-lts.Need-advance-operation-requires (expression-calls t) (expression-at t) expression.Post
-  expression-advance-operation-requires c κs = (omega (arith, c .before .before .before .before .before .before .before .before .before .pre .0), (c .before .before .before .before .before .before .before .before .before .pre .1, search needs))
+  expression-advance-operation-requires :
+      expression-lts.Need-advance-operation-requires (expression-calls t) (expression-at t) expression.Post
+  expression-advance-operation-requires c κs =
+      let start = c .before .before .before .before .before .before .before .before .before in
+      (omega (arith, start .pre .0), (start .pre .1, search needs))
 
   expression-advance-pre-requires : expression-lts.Need-advance-pre-requires (expression-calls t) (expression-at t) expression.Post
-  expression-advance-pre-requires c κs = (omega (arith, c .before .before .before .before .before .before .before .before .before .before .pre .0), (c .before .before .before .before .before .before .before .before .before .before .pre .1, search needs))
+  expression-advance-pre-requires c κs =
+      let start = c .before .before .before .before .before .before .before .before .before .before in
+      (omega (arith, start .pre .0), (start .pre .1, search needs))
 
   expression-advance-fby-requires : expression-lts.Need-advance-fby-requires (expression-calls t) (expression-at t) expression.Post
   expression-advance-fby-requires c κs =
-      (omega (arith, c .before .before .before .before .before .before .before .before .before .before .pre .0),
-      (c .before .before .before .before .before .before .before .before .before .before .pre .1, omega (arith, opened (c .before .before .before .before .before .before .before .before .before .before .pre .1 .place) .good .kind)))
+      let start = c .before .before .before .before .before .before .before .before .before .before in
+      (omega (arith, start .pre .0), (start .pre .1, omega (arith, opened (start .pre .1 .place) .good .kind)))
 
   expression-same-length : expression-lts.Need-same-length (expression-calls t) (expression-at t) expression.Post
   expression-same-length c = c .before .before .advance-conditional .kept .1 .1 .0
@@ -300,7 +333,9 @@ module _ (t : ℕ) where
   expression-same-length-4 c = search needs
 
   expression-returns-4 : expression-lts.Need-returns-4 (expression-calls t) (expression-at t) expression.Post
-  expression-returns-4 c = λ p. leaf-advances p (c .before .before .before .before .before .before .before .before .before .args .fresh) (search needs) (c .value-expression .ensures (p .place))
+  expression-returns-4 c =
+      let start = c .before .before .before .before .before .before .before .before .before in
+      λ p. leaf-advances p (start .args .fresh) (search needs) (c .value-expression .ensures (p .place))
 
   expression-same-length-5 : expression-lts.Need-same-length-5 (expression-calls t) (expression-at t) expression.Post
   expression-same-length-5 c = c .before .before .advance-operation .kept .1 .1 .0
@@ -330,47 +365,61 @@ module _ (t : ℕ) where
   fby-add-inner c = omega (arith, opened (c .before .before .before .before .pre .1 .0 .place) .good .cells)
 
   fby-cell-at-requires : fby-lts.Need-cell-at-requires (fby-calls t) (fby-at t) fby.Post
-  fby-cell-at-requires c κs = own-cell (c .before .before .before .before .before .pre .1 .0 .place) (omega (arith, c .before .before .before .before .before .pre .1 .1)) .stands .fits
+  fby-cell-at-requires c κs =
+      let start = c .before .before .before .before .before in
+      own-cell (start .pre .1 .0 .place) (omega (arith, start .pre .1 .1)) .stands .fits
 
   fby-started-requires : fby-lts.Need-started-requires (fby-calls t) (fby-at t) fby.Post
   fby-started-requires c κs = search needs
 
   fby-advance-expression-requires : fby-lts.Need-advance-expression-requires (fby-calls t) (fby-at t) fby.Post
   fby-advance-expression-requires c κs =
-      let p = c .before .before .before .before .before .before .before .before .pre .1 .0 in
-      let w = fby-view (p .place) (c .before .before .before .before .before .before .before .before .pre .1 .1) in
-      (omega (arith, c .before .before .before .before .before .before .before .before .pre .0, opened (p .place) .level-left), two-ready p w)
+      let start = c .before .before .before .before .before .before .before .before in
+      let p = start .pre .1 .0 in
+      let w = fby-view (p .place) (start .pre .1 .1) in
+      (omega (arith, start .pre .0, opened (p .place) .level-left), two-ready p w)
 
   fby-advance-expression-requires-2 : fby-lts.Need-advance-expression-requires-2 (fby-calls t) (fby-at t) fby.Post
   fby-advance-expression-requires-2 c κs =
-      let p = c .before .before .before .before .before .before .before .before .before .before .before .before .pre .1 .0 in
-      let w = fby-view (p .place) (c .before .before .before .before .before .before .before .before .before .before .before .before .pre .1 .1) in
-      (omega (arith, c .before .before .before .before .before .before .before .before .before .before .before .before .pre .0, opened (p .place) .level-left), two-ready-2 p w (c .before .before .before .advance-expression .ensures))
+      let first = c .before .before .before in
+      let start = first .before .before .before .before .before .before .before .before .before in
+      let p = start .pre .1 .0 in
+      let w = fby-view (p .place) (start .pre .1 .1) in
+      (omega (arith, start .pre .0, opened (p .place) .level-left), two-ready-2 p w (first .advance-expression .ensures))
 
   fby-datum-in-requires : fby-lts.Need-datum-in-requires (fby-calls t) (fby-at t) fby.Post
   fby-datum-in-requires c κs = search needs
 
   fby-put-cell-requires : fby-lts.Need-put-cell-requires (fby-calls t) (fby-at t) fby.Post
   fby-put-cell-requires c κs =
-      let p = c .before .before .before .before .before .before .before .before .before .before .before .before .before .before .before .before .before .pre .1 .0 in
-      let own = own-cell (p .place) (omega (arith, c .before .before .before .before .before .before .before .before .before .before .before .before .before .before .before .before .before .pre .1 .1)) in
-      omega (arith, own .stands .fits, c .before .before .before .before .advance-expression2 .kept .1 .1 .0, c .before .before .before .before .before .before .before .before .advance-expression .kept .1 .1 .0)
+      let second = c .before .before .before .before in
+      let first = second .before .before .before .before in
+      let start = first .before .before .before .before .before .before .before .before .before in
+      let own = own-cell (start .pre .1 .0 .place) (omega (arith, start .pre .1 .1)) in
+      omega (arith, own .stands .fits, second .advance-expression2 .kept .1 .1 .0, first .advance-expression .kept .1 .1 .0)
 
   fby-held-or-requires : fby-lts.Need-held-or-requires (fby-calls t) (fby-at t) fby.Post
   fby-held-or-requires c κs = search needs
 
   fby-same-length : fby-lts.Need-same-length (fby-calls t) (fby-at t) fby.Post
   fby-same-length c =
-      c .before .before .before .put-cell .kept .0
-      ∙ c .before .before .before .before .before .before .before .before .advance-expression2 .kept .1 .1 .0
-      ∙ c .before .before .before .before .before .before .before .before .before .before .before .before .advance-expression .kept .1 .1 .0
+      let put = c .before .before .before in
+      let second = put .before .before .before .before .before in
+      let first = second .before .before .before .before in
+      put .put-cell .kept .0 ∙ second .advance-expression2 .kept .1 .1 .0 ∙ first .advance-expression .kept .1 .1 .0
 
   fby-returns : fby-lts.Need-returns (fby-calls t) (fby-at t) fby.Post
   fby-returns c =
-      λ p. fby-advances p (c .before .before .before .before .before .before .before .before .before .before .before .before .before .before .before .before .before .before .before .before .before .args .fresh) (c .before .before .before .before .before .before .before .before .before .before .before .before .before .before .before .before .before .before .before .before .before .pre .1 .1)
-      (c .before .before .before .before .before .before .before .before .before .before .before .before .before .before .before .cell-at .ensures) (c .before .before .before .before .before .before .before .before .before .before .before .before .before .before .started .ensures)
-      (c .before .before .before .before .before .before .before .before .before .before .before .before .advance-expression .ensures) (c .before .before .before .before .before .before .before .before .advance-expression2 .ensures) (c .before .before .before .before .datum-in .ensures)
-      (c .before .before .before .put-cell .ensures) (c .held-or .ensures)
+      let put = c .before .before .before in
+      let datum = put .before in
+      let second = datum .before .before .before .before in
+      let first = second .before .before .before .before in
+      let seen = first .before .before in
+      let read = seen .before in
+      let start = read .before .before .before .before .before .before in
+      λ p. fby-advances p (start .args .fresh) (start .pre .1 .1)
+      (read .cell-at .ensures) (seen .started .ensures) (first .advance-expression .ensures) (second .advance-expression2 .ensures)
+      (datum .datum-in .ensures) (put .put-cell .ensures) (c .held-or .ensures)
 
   operation-shared-slice-read-kind : operation-lts.Need-shared-slice-read-kind (operation-calls t) (operation-at t) operation.Post
   operation-shared-slice-read-kind c = opened (c .before .before .before .before .before .pre .1 .0 .place) .good .starts
@@ -384,13 +433,18 @@ module _ (t : ℕ) where
   operation-add-first : operation-lts.Need-add-first (operation-calls t) (operation-at t) operation.Post
   operation-add-first c = omega (arith, opened (c .before .before .before .before .before .before .pre .1 .0 .place) .good .starts)
 
-  operation-array-read-advance-expression : operation-lts.Need-array-read-advance-expression (operation-calls t) (operation-at t) operation.Post
+  operation-array-read-advance-expression :
+      operation-lts.Need-array-read-advance-expression (operation-calls t) (operation-at t) operation.Post
   operation-array-read-advance-expression c = search needs
 
-  operation-advance-expression-requires : operation-lts.Need-advance-expression-requires (operation-calls t) (operation-at t) operation.Post
+  operation-advance-expression-requires :
+      operation-lts.Need-advance-expression-requires (operation-calls t) (operation-at t) operation.Post
   operation-advance-expression-requires c κs =
-      let p = c .before .before .before .before .before .before .before .pre .1 .0 in
-      (omega (arith, c .before .before .before .before .before .before .before .pre .0, opened (p .place) .level-left), operation-ready p (c .before .before .before .before .before .before .before .args .fresh) _ (c .before .operand-types .ensures) (c .before .before .before .before .before .before .before .pre .1 .1 .0) (c .before .before .before .before .before .before .before .pre .1 .1 .1))
+      let types = c .before in
+      let start = types .before .before .before .before .before .before in
+      let p = start .pre .1 .0 in
+      let first = operation-ready p (start .args .fresh) _ (types .operand-types .ensures) (start .pre .1 .1 .0) (start .pre .1 .1 .1) in
+      (omega (arith, start .pre .0, opened (p .place) .level-left), first)
 
   operation-unary-requires : operation-lts.Need-unary-requires (operation-calls t) (operation-at t) operation.Post
   operation-unary-requires c κs = search needs
@@ -400,31 +454,47 @@ module _ (t : ℕ) where
 
   operation-returns : operation-lts.Need-returns (operation-calls t) (operation-at t) operation.Post
   operation-returns c =
-      λ p. unary-advances p (c .before .before .before .before .before .before .before .before .before .before .before .before .args .fresh) _ (c .before .before .before .before .before .before .operand-types .ensures)
-      (c .before .before .before .before .before .before .before .before .before .before .before .before .pre .1 .1 .0) (c .before .if1 .taken) (c .before .before .before .before .advance-expression .ensures) (c .unary .ensures)
+      let test = c .before in
+      let first = test .before .before .before in
+      let types = first .before .before in
+      let start = types .before .before .before .before .before .before in
+      λ p. unary-advances p (start .args .fresh) _ (types .operand-types .ensures)
+      (start .pre .1 .1 .0) (test .if1 .taken) (first .advance-expression .ensures) (c .unary .ensures)
 
-  operation-array-read-advance-expression-2 : operation-lts.Need-array-read-advance-expression-2 (operation-calls t) (operation-at t) operation.Post
+  operation-array-read-advance-expression-2 :
+      operation-lts.Need-array-read-advance-expression-2 (operation-calls t) (operation-at t) operation.Post
   operation-array-read-advance-expression-2 c = search needs
 
-  operation-advance-expression-requires-2 : operation-lts.Need-advance-expression-requires-2 (operation-calls t) (operation-at t) operation.Post
+  operation-advance-expression-requires-2 :
+      operation-lts.Need-advance-expression-requires-2 (operation-calls t) (operation-at t) operation.Post
   operation-advance-expression-requires-2 c κs =
-      let p = c .before .before .before .before .before .before .before .before .before .before .before .before .pre .1 .0 in
-      let w = binary-view (p .place) _ (c .before .before .before .before .before .before .operand-types .ensures) (c .before .if1 .left) (c .before .before .before .before .before .before .before .before .before .before .before .before .pre .1 .1 .1) in
-      (omega (arith, c .before .before .before .before .before .before .before .before .before .before .before .before .pre .0, opened (p .place) .level-left), two-ready-2 p w (c .before .before .before .before .advance-expression .ensures))
+      let test = c .before in
+      let first = test .before .before .before in
+      let types = first .before .before in
+      let start = types .before .before .before .before .before .before in
+      let p = start .pre .1 .0 in
+      let w = binary-view (p .place) _ (types .operand-types .ensures) (test .if1 .left) (start .pre .1 .1 .1) in
+      (omega (arith, start .pre .0, opened (p .place) .level-left), two-ready-2 p w (first .advance-expression .ensures))
 
   operation-binary-requires : operation-lts.Need-binary-requires (operation-calls t) (operation-at t) operation.Post
   operation-binary-requires c κs = search needs
 
   operation-same-length-2 : operation-lts.Need-same-length-2 (operation-calls t) (operation-at t) operation.Post
   operation-same-length-2 c =
-      c .before .before .before .advance-expression2 .kept .1 .1 .0
-      ∙ c .before .before .before .before .before .before .before .before .advance-expression .kept .1 .1 .0
+      let second = c .before .before .before in
+      let first = second .before .before .before .before .before in
+      second .advance-expression2 .kept .1 .1 .0 ∙ first .advance-expression .kept .1 .1 .0
 
   operation-returns-2 : operation-lts.Need-returns-2 (operation-calls t) (operation-at t) operation.Post
   operation-returns-2 c =
-      λ p. binary-advances p (c .before .before .before .before .before .before .before .before .before .before .before .before .before .before .before .before .args .fresh) _ (c .before .before .before .before .before .before .before .before .before .before .operand-types .ensures)
-      (c .before .before .before .before .before .if1 .left) (c .before .before .before .before .before .before .before .before .before .before .before .before .before .before .before .before .pre .1 .1 .1)
-      (c .before .before .before .before .before .before .before .before .advance-expression .ensures) (c .before .before .before .advance-expression2 .ensures) (c .binary .ensures)
+      let second = c .before .before .before in
+      let test = second .before .before in
+      let first = test .before .before .before in
+      let types = first .before .before in
+      let start = types .before .before .before .before .before .before in
+      λ p. binary-advances p (start .args .fresh) _ (types .operand-types .ensures)
+      (test .if1 .left) (start .pre .1 .1 .1) (first .advance-expression .ensures) (second .advance-expression2 .ensures)
+      (c .binary .ensures)
 
   pre-sub-below : pre-lts.Need-sub-below (pre-calls t) (pre-at t) pre.Post
   pre-sub-below c = opened (c .before .before .before .before .pre .1 .0 .place) .level-left
@@ -439,7 +509,9 @@ module _ (t : ℕ) where
   pre-body-requires c κs = opened (c .before .before .before .before .before .pre .1 .0 .place) .good .kind
 
   pre-add-first-2 : pre-lts.Need-add-first-2 (pre-calls t) (pre-at t) pre.Post
-  pre-add-first-2 c = omega (arith, opened (c .before .before .before .before .before .before .pre .1 .0 .place) .good .ends, c .body .ensures)
+  pre-add-first-2 c =
+      let start = c .before .before .before .before .before .before in
+      omega (arith, opened (start .pre .1 .0 .place) .good .ends, c .body .ensures)
 
   pre-add-inner : pre-lts.Need-add-inner (pre-calls t) (pre-at t) pre.Post
   pre-add-inner c = omega (arith, opened (c .before .before .before .before .before .before .pre .1 .0 .place) .good .cells)
@@ -451,36 +523,51 @@ module _ (t : ℕ) where
   pre-datum-of-requires c κs = search needs
 
   pre-cell-at-requires : pre-lts.Need-cell-at-requires (pre-calls t) (pre-at t) pre.Post
-  pre-cell-at-requires c κs = own-cell (c .before .before .before .before .before .before .before .before .before .pre .1 .0 .place) (c .before .before .before .before .before .before .before .before .before .pre .1 .1 .0) .stands .fits
+  pre-cell-at-requires c κs =
+      let start = c .before .before .before .before .before .before .before .before .before in
+      own-cell (start .pre .1 .0 .place) (start .pre .1 .1 .0) .stands .fits
 
   pre-held-requires : pre-lts.Need-held-requires (pre-calls t) (pre-at t) pre.Post
   pre-held-requires c κs = search needs
 
   pre-advance-expression-requires : pre-lts.Need-advance-expression-requires (pre-calls t) (pre-at t) pre.Post
   pre-advance-expression-requires c κs =
-      let p = c .before .before .before .before .before .before .before .before .before .before .before .before .pre .1 .0 in
-      let w = pre-view (p .place) (c .before .before .before .before .before .before .before .before .before .before .before .before .pre .1 .1 .0) (c .before .before .before .before .before .before .before .before .before .before .before .before .pre .1 .1 .1) in
-      (omega (arith, c .before .before .before .before .before .before .before .before .before .before .before .before .pre .0, opened (p .place) .level-left), rw (c .before .before .before .before .before .before .body .ensures) (one-ready p w))
+      let body = c .before .before .before .before .before .before in
+      let start = body .before .before .before .before .before .before in
+      let p = start .pre .1 .0 in
+      let w = pre-view (p .place) (start .pre .1 .1 .0) (start .pre .1 .1 .1) in
+      (omega (arith, start .pre .0, opened (p .place) .level-left), rw (body .body .ensures) (one-ready p w))
 
   pre-datum-in-requires : pre-lts.Need-datum-in-requires (pre-calls t) (pre-at t) pre.Post
   pre-datum-in-requires c κs = search needs
 
   pre-put-cell-requires : pre-lts.Need-put-cell-requires (pre-calls t) (pre-at t) pre.Post
   pre-put-cell-requires c κs =
-      let p = c .before .before .before .before .before .before .before .before .before .before .before .before .before .before .before .before .before .pre .1 .0 in
-      omega (arith, own-cell (p .place) (c .before .before .before .before .before .before .before .before .before .before .before .before .before .before .before .before .before .pre .1 .1 .0) .stands .fits, c .before .before .before .before .advance-expression .kept .1 .1 .0)
+      let first = c .before .before .before .before in
+      let start = first .before .before .before .before .before .before .before .before .before .before .before .before .before in
+      let own = own-cell (start .pre .1 .0 .place) (start .pre .1 .1 .0) in
+      omega (arith, own .stands .fits, first .advance-expression .kept .1 .1 .0)
 
   pre-same-length : pre-lts.Need-same-length (pre-calls t) (pre-at t) pre.Post
   pre-same-length c =
-      c .before .before .put-cell .kept .0
-      ∙ c .before .before .before .before .before .before .before .advance-expression .kept .1 .1 .0
+      let put = c .before .before in
+      let first = put .before .before .before .before .before in
+      put .put-cell .kept .0 ∙ first .advance-expression .kept .1 .1 .0
 
   pre-returns : pre-lts.Need-returns (pre-calls t) (pre-at t) pre.Post
   pre-returns c =
-      λ p. pre-advances p (c .before .before .before .before .before .before .before .before .before .before .before .before .before .before .before .before .before .before .before .before .args .fresh) (c .before .before .before .before .before .before .before .before .before .before .before .before .before .before .before .before .before .before .before .before .pre .1 .1 .0) (c .before .before .before .before .before .before .before .before .before .before .before .before .before .before .before .before .before .before .before .before .pre .1 .1 .1)
-      (c .before .before .before .before .before .before .before .before .before .before .before .before .before .body-at .ensures) (c .before .before .before .before .before .before .before .before .before .before .before .before .before .before .body .ensures)
-      (c .before .before .before .before .before .before .before .before .before .before .before .before .datum-of .ensures) (c .before .before .before .before .before .before .before .before .before .before .cell-at .ensures) (c .before .before .before .before .before .before .before .before .before .held .ensures)
-      (c .before .before .before .before .before .before .before .advance-expression .ensures) (c .before .before .before .datum-in .ensures) (c .before .before .put-cell .ensures)
+      let put = c .before .before in
+      let datum = put .before in
+      let first = datum .before .before .before .before in
+      let held = first .before .before in
+      let read = held .before in
+      let constant = read .before .before in
+      let number = constant .before in
+      let size = number .before in
+      let start = size .before .before .before .before .before .before in
+      λ p. pre-advances p (start .args .fresh) (start .pre .1 .1 .0) (start .pre .1 .1 .1)
+      (number .body-at .ensures) (size .body .ensures) (constant .datum-of .ensures) (read .cell-at .ensures) (held .held .ensures)
+      (first .advance-expression .ensures) (datum .datum-in .ensures) (put .put-cell .ensures)
 
   present-sub-below : present-lts.Need-sub-below (present-calls t) (present-at t) present.Post
   present-sub-below c = opened (c .before .before .before .before .pre .1 .0 .place) .level-left
@@ -490,63 +577,89 @@ module _ (t : ℕ) where
 
   present-advance-expression-requires : present-lts.Need-advance-expression-requires (present-calls t) (present-at t) present.Post
   present-advance-expression-requires c κs =
-      let p = c .before .before .before .before .before .pre .1 .0 in
-      let w = present-view (p .place) (c .before .before .before .before .before .pre .1 .1) in
-      (omega (arith, c .before .before .before .before .before .pre .0, opened (p .place) .level-left), three-ready p w)
+      let start = c .before .before .before .before .before in
+      let p = start .pre .1 .0 in
+      let w = present-view (p .place) (start .pre .1 .1) in
+      (omega (arith, start .pre .0, opened (p .place) .level-left), three-ready p w)
 
   present-is-true-requires : present-lts.Need-is-true-requires (present-calls t) (present-at t) present.Post
   present-is-true-requires c κs = search needs
 
   present-advance-expression-requires-2 : present-lts.Need-advance-expression-requires-2 (present-calls t) (present-at t) present.Post
   present-advance-expression-requires-2 c κs =
-      let p = c .before .before .before .before .before .before .before .before .before .before .before .pre .1 .0 in
-      let w = present-view (p .place) (c .before .before .before .before .before .before .before .before .before .before .before .pre .1 .1) in
-      (omega (arith, c .before .before .before .before .before .before .before .before .before .before .before .pre .0, opened (p .place) .level-left), three-ready-2 p w (c .before .before .before .before .before .advance-expression .ensures))
+      let first = c .before .before .before .before .before in
+      let start = first .before .before .before .before .before .before in
+      let p = start .pre .1 .0 in
+      let w = present-view (p .place) (start .pre .1 .1) in
+      (omega (arith, start .pre .0, opened (p .place) .level-left), three-ready-2 p w (first .advance-expression .ensures))
 
   present-rest-requires : present-lts.Need-rest-requires (present-calls t) (present-at t) present.Post
   present-rest-requires c κs =
-      let p = c .before .before .before .before .before .before .before .before .before .before .before .before .before .before .before .pre .1 .0 in
-      let w = present-view (p .place) (c .before .before .before .before .before .before .before .before .before .before .before .before .before .before .before .pre .1 .1) in
-      three-arm-3 p w (c .before .before .before .before .before .before .before .before .before .advance-expression .ensures) (c .before .before .before .advance-expression2 .ensures)
+      let second = c .before .before .before in
+      let first = second .before .before .before .before .before .before in
+      let start = first .before .before .before .before .before .before in
+      let p = start .pre .1 .0 in
+      three-arm-3 p (present-view (p .place) (start .pre .1 .1)) (first .advance-expression .ensures) (second .advance-expression2 .ensures)
 
   present-same-length : present-lts.Need-same-length (present-calls t) (present-at t) present.Post
   present-same-length c =
-      c .before .before .rest .kept .1 .1 .1 .1 .0
-      ∙ c .before .before .before .before .before .before .advance-expression2 .kept .1 .1 .0
-      ∙ c .before .before .before .before .before .before .before .before .before .before .before .before .advance-expression .kept .1 .1 .0
+      let third = c .before .before in
+      let second = third .before .before .before .before in
+      let first = second .before .before .before .before .before .before in
+      third .rest .kept .1 .1 .1 .1 .0 ∙ second .advance-expression2 .kept .1 .1 .0 ∙ first .advance-expression .kept .1 .1 .0
 
   present-returns : present-lts.Need-returns (present-calls t) (present-at t) present.Post
   present-returns c =
-      λ p. present-advances-first p (c .before .before .before .before .before .before .before .before .before .before .before .before .before .before .before .before .before .before .args .fresh) (c .before .before .before .before .before .before .before .before .before .before .before .before .before .before .before .before .before .before .pre .1 .1)
-      (c .before .before .before .before .before .before .before .before .before .before .before .before .advance-expression .ensures) (sym (c .before .before .before .before .before .before .before .before .before .is-true .ensures) ∙ c .before .before .before .before .before .before .before .before .if1 .taken)
-      (c .before .before .before .before .before .before .advance-expression2 .ensures) (c .before .before .rest .ensures)
+      let third = c .before .before in
+      let second = third .before .before .before .before in
+      let taken = second .before .before in
+      let test = taken .before in
+      let first = test .before .before .before in
+      let start = first .before .before .before .before .before .before in
+      λ p. present-advances-first p (start .args .fresh) (start .pre .1 .1)
+      (first .advance-expression .ensures) (sym (test .is-true .ensures) ∙ taken .if1 .taken)
+      (second .advance-expression2 .ensures) (third .rest .ensures)
 
   present-rest-requires-2 : present-lts.Need-rest-requires-2 (present-calls t) (present-at t) present.Post
   present-rest-requires-2 c κs =
-      let p = c .before .before .before .before .before .before .before .before .before .before .before .pre .1 .0 in
-      let w = present-view (p .place) (c .before .before .before .before .before .before .before .before .before .before .before .pre .1 .1) in
-      three-arm-2 p w (c .before .before .before .before .before .advance-expression .ensures)
+      let first = c .before .before .before .before .before in
+      let start = first .before .before .before .before .before .before in
+      let p = start .pre .1 .0 in
+      three-arm-2 p (present-view (p .place) (start .pre .1 .1)) (first .advance-expression .ensures)
 
   present-advance-expression-requires-3 : present-lts.Need-advance-expression-requires-3 (present-calls t) (present-at t) present.Post
   present-advance-expression-requires-3 c κs =
-      let p = c .before .before .before .before .before .before .before .before .before .before .before .before .before .before .before .pre .1 .0 in
-      let w = present-view (p .place) (c .before .before .before .before .before .before .before .before .before .before .before .before .before .before .before .pre .1 .1) in
-      (omega (arith, c .before .before .before .before .before .before .before .before .before .before .before .before .before .before .before .pre .0, opened (p .place) .level-left), rest-ready-3 p w (c .before .before .before .before .before .before .before .before .before .advance-expression .ensures) (c .before .before .before .rest2 .ensures))
+      let second = c .before .before .before in
+      let first = second .before .before .before .before .before .before in
+      let start = first .before .before .before .before .before .before in
+      let p = start .pre .1 .0 in
+      let w = present-view (p .place) (start .pre .1 .1) in (
+        omega (arith, start .pre .0, opened (p .place) .level-left),
+        rest-ready-3 p w
+            (first .advance-expression .ensures) (second .rest2 .ensures),
+      )
 
   present-under-requires : present-lts.Need-under-requires (present-calls t) (present-at t) present.Post
   present-under-requires c κs = search needs
 
   present-same-length-2 : present-lts.Need-same-length-2 (present-calls t) (present-at t) present.Post
   present-same-length-2 c =
-      c .before .before .before .advance-expression3 .kept .1 .1 .0
-      ∙ c .before .before .before .before .before .before .before .rest2 .kept .1 .1 .1 .1 .0
-      ∙ c .before .before .before .before .before .before .before .before .before .before .before .before .before .advance-expression .kept .1 .1 .0
+      let third = c .before .before .before in
+      let second = third .before .before .before .before in
+      let first = second .before .before .before .before .before .before in
+      third .advance-expression3 .kept .1 .1 .0 ∙ second .rest2 .kept .1 .1 .1 .1 .0 ∙ first .advance-expression .kept .1 .1 .0
 
   present-returns-2 : present-lts.Need-returns-2 (present-calls t) (present-at t) present.Post
   present-returns-2 c =
-      λ p. present-advances-second p (c .before .before .before .before .before .before .before .before .before .before .before .before .before .before .before .before .before .before .before .args .fresh) (c .before .before .before .before .before .before .before .before .before .before .before .before .before .before .before .before .before .before .before .pre .1 .1)
-      (c .before .before .before .before .before .before .before .before .before .before .before .before .before .advance-expression .ensures) (sym (c .before .before .before .before .before .before .before .before .before .before .is-true .ensures) ∙ c .before .before .before .before .before .before .before .before .before .if1 .left)
-      (c .before .before .before .before .before .before .before .rest2 .ensures) (c .before .before .before .advance-expression3 .ensures) (c .under .ensures)
+      let third = c .before .before .before in
+      let second = third .before .before .before .before in
+      let left = second .before .before in
+      let test = left .before in
+      let first = test .before .before .before in
+      let start = first .before .before .before .before .before .before in
+      λ p. present-advances-second p (start .args .fresh) (start .pre .1 .1)
+      (first .advance-expression .ensures) (sym (test .is-true .ensures) ∙ left .if1 .left)
+      (second .rest2 .ensures) (third .advance-expression3 .ensures) (c .under .ensures)
 
   reset-sub-below : reset-lts.Need-sub-below (reset-calls t) (reset-at t) reset.Post
   reset-sub-below c = opened (c .before .before .before .before .pre .1 .0 .place) .level-left
@@ -556,31 +669,39 @@ module _ (t : ℕ) where
 
   reset-advance-expression-requires : reset-lts.Need-advance-expression-requires (reset-calls t) (reset-at t) reset.Post
   reset-advance-expression-requires c κs =
-      let p = c .before .before .before .before .before .pre .1 .0 in
-      let w = reset-view (p .place) (c .before .before .before .before .before .pre .1 .1) in
-      (omega (arith, c .before .before .before .before .before .pre .0, opened (p .place) .level-left), two-ready p w)
+      let start = c .before .before .before .before .before in
+      let p = start .pre .1 .0 in
+      let w = reset-view (p .place) (start .pre .1 .1) in
+      (omega (arith, start .pre .0, opened (p .place) .level-left), two-ready p w)
 
   reset-is-true-requires : reset-lts.Need-is-true-requires (reset-calls t) (reset-at t) reset.Post
   reset-is-true-requires c κs = search needs
 
   reset-advance-expression-requires-2 : reset-lts.Need-advance-expression-requires-2 (reset-calls t) (reset-at t) reset.Post
   reset-advance-expression-requires-2 c κs =
-      let p = c .before .before .before .before .before .before .before .before .before .before .pre .1 .0 in
-      let w = reset-view (p .place) (c .before .before .before .before .before .before .before .before .before .before .pre .1 .1) in
-      (omega (arith, c .before .before .before .before .before .before .before .before .before .before .pre .0, opened (p .place) .level-left), two-ready-2 p w (c .before .before .before .before .advance-expression .ensures))
+      let first = c .before .before .before .before in
+      let start = first .before .before .before .before .before .before in
+      let p = start .pre .1 .0 in
+      let w = reset-view (p .place) (start .pre .1 .1) in
+      (omega (arith, start .pre .0, opened (p .place) .level-left), two-ready-2 p w (first .advance-expression .ensures))
 
   reset-under-requires : reset-lts.Need-under-requires (reset-calls t) (reset-at t) reset.Post
   reset-under-requires c κs = search needs
 
   reset-same-length : reset-lts.Need-same-length (reset-calls t) (reset-at t) reset.Post
   reset-same-length c =
-      c .before .before .before .advance-expression2 .kept .1 .1 .0
-      ∙ c .before .before .before .before .before .before .before .before .advance-expression .kept .1 .1 .0
+      let second = c .before .before .before in
+      let first = second .before .before .before .before .before in
+      second .advance-expression2 .kept .1 .1 .0 ∙ first .advance-expression .kept .1 .1 .0
 
   reset-returns : reset-lts.Need-returns (reset-calls t) (reset-at t) reset.Post
   reset-returns c =
-      λ p. reset-advances p (c .before .before .before .before .before .before .before .before .before .before .before .before .before .before .args .fresh) (c .before .before .before .before .before .before .before .before .before .before .before .before .before .before .pre .1 .1)
-      (c .before .before .before .before .before .before .before .before .advance-expression .ensures) (c .before .before .before .before .before .is-true .ensures) (c .before .before .before .advance-expression2 .ensures) (c .under .ensures)
+      let second = c .before .before .before in
+      let test = second .before .before in
+      let first = test .before .before .before in
+      let start = first .before .before .before .before .before .before in
+      λ p. reset-advances p (start .args .fresh) (start .pre .1 .1)
+      (first .advance-expression .ensures) (test .is-true .ensures) (second .advance-expression2 .ensures) (c .under .ensures)
 
 pub +advance-conditional+advance-expression+advance-fby+advance-operation+advance-pre+advance-present+advance-reset-spec : {M : Type 1} → statement M
 +advance-conditional+advance-expression+advance-fby+advance-operation+advance-pre+advance-present+advance-reset-spec =

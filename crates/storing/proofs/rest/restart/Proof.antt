@@ -37,7 +37,7 @@ shared-slice-read-kind : tie.Need-shared-slice-read-kind Inv-loop μ-loop
 shared-slice-read-kind c = omega (arith, met (c .before) .met .ends)
 
 put-own-requires : tie.Need-put-own-requires Inv-loop μ-loop
-put-own-requires c κs = 
+put-own-requires c κs =
     let s = met (c .before .before) in
     (s .met, omega (arith, s .room, c .before .before .before .before .before .before .pre .fits, c .before .before .before .loop .inv .0))
 
@@ -69,11 +69,14 @@ loop-less : tie.Need-loop-less Inv-loop μ-loop
 loop-less c = omega (arith, met (c .before .before .before .before .before .before .before .before) .met .ends, c .body .ensures)
 
 loop-again : tie.Need-loop-again Inv-loop μ-loop
-loop-again c = (
-    c .before .before .before .before .before .put-own .kept .1 .1 .0 ∙ c .before .before .before .before .before .before .before .before .before .loop .inv .0,
-    λ p.
-        rw (c .body .ensures, c .before .cells .ensures, c .before .before .operands .ensures, c .before .before .before .before .before .put-own .ensures)
-        (step (c .before .before .before .before .before .before .before .before .loop-test .taken) (c .before .before .before .before .before .before .before .before .before .loop .inv .1 p) .rest)
+loop-again c =
+    let put = c .before .before .before .before .before in
+    let turn = put .before .before .before in
+    let at = turn .before in (
+      put .put-own .kept .1 .1 .0 ∙ at .loop .inv .0,
+      λ p.
+          rw (c .body .ensures, c .before .cells .ensures, c .before .before .operands .ensures, put .put-own .ensures)
+          (step (turn .loop-test .taken) (at .loop .inv .1 p) .rest),
     )
 
 same-length : tie.Need-same-length Inv-loop μ-loop

@@ -1,0 +1,90 @@
+-- What the table of kinds says of the kinds that the code takes together.
+use Prim.Native.Nat.{ℕ, _+_, _-_, _≤_, _<_}
+use mathlib.Core.Path.{_≡_, refl, sym, ap}
+use mathlib.Core.List.{List, [], _∷_}
+use native.Mathlib.Omega.{arith}
+use lib.ListN.{length, getD, take}
+use Rattle.sheet.specs.Data.{ValueType, boolean, number, typeOf, datumOf}
+use Rattle.sheet.specs.Expressions.{constant, unary, binary, pre}
+use Rattle.sheet.specs.Expressions.{CellForm, preCell, fbyCell}
+use Rattle.sheet.specs.Kinds.{Meaning, operand, bodyOf, cellsOf, countOf, operandsOf, foundOf, meaningOf}
+use Rattle.sheet.specs.Laws.Readings.{ownForms, every-kind, Rows, _▸_, end, row-at}
+use Rattle.kernel.specs.Operations.{unaryOf, binaryOf}
+
+pub own-length : (type : ValueType) (body k : ℕ) → k < 18 → length (ownForms k type body) ≡ cellsOf k
+own-length type body = every-kind (λ k. length (ownForms k type body) ≡ cellsOf k)
+    (refl ▸ refl ▸ refl ▸ refl ▸ refl ▸ refl ▸ refl ▸ refl ▸ refl ▸ refl ▸ refl ▸ refl ▸ refl ▸ refl ▸ refl ▸ refl ▸ refl ▸ refl ▸ end)
+
+-- what is shown of some rows, one behind the other, holds of every kind between them
+among : (P : ℕ → Type 0) {low n : ℕ} → Rows P low n → (k : ℕ) → low ≤ k → k < low + n → P k
+among P {low} rows k above below =
+    let e : low + (k - low) ≡ k = omega arith in
+    rw e at (row-at P rows (k - low) (omega arith))
+
+-- the row of kind k, without the types
+abbrev pub rowOf : ℕ → ℕ × ℕ × ℕ × Meaning
+rowOf k = (bodyOf k, cellsOf k, countOf k, meaningOf k)
+
+abbrev pub UnaryRow : ℕ → Type 0
+UnaryRow k = rowOf k ≡ (0, 0, 1, λ t b es. unary (unaryOf k) (operand es 0))
+
+pub unary-row : (k : ℕ) → 4 ≤ k → k < 6 → UnaryRow k
+unfolding meaningOf
+unary-row = among UnaryRow (refl ▸ refl ▸ end)
+
+abbrev pub BinaryRow : ℕ → Type 0
+BinaryRow k = rowOf k ≡ (0, 0, 2, λ t b es. binary (binaryOf k) (operand es 0) (operand es 1))
+
+pub binary-row : (k : ℕ) → 6 ≤ k → k < 12 → BinaryRow k
+unfolding meaningOf
+binary-row = among BinaryRow (refl ▸ refl ▸ refl ▸ refl ▸ refl ▸ refl ▸ end)
+
+-- a pre has the type of its operand
+pub record PreRow (k : ℕ) : Type 0 where
+  pub row : rowOf k ≡ (bodyOf k, 1, 1, λ t b es. pre (datumOf t b) (operand es 0))
+  pub types : (inputs wires : List ℕ) (t n : ℕ) → foundOf inputs wires t k n ≡ t → operandsOf k t ≡ t ∷ []
+
+pub pre-row : (k : ℕ) → 15 ≤ k → k < 17 → PreRow k
+unfolding meaningOf operandsOf
+pre-row = among PreRow (
+    record { row = refl; types = λ is ws t n e. ap (λ u. u ∷ []) e }
+    ▸ record { row = refl; types = λ is ws t n e. ap (λ u. u ∷ []) e }
+    ▸ end)
+
+abbrev pub ConstantRow : ℕ → Type 0
+ConstantRow k = rowOf k ≡ (bodyOf k, 0, 0, λ t b es. constant (datumOf t b))
+
+pub constant-row : (k : ℕ) → k < 2 → ConstantRow k
+unfolding meaningOf
+constant-row k below = among ConstantRow {low = 0} (refl ▸ refl ▸ end) k (omega arith) (omega arith)
+
+-- the form of the cell that a kind owns
+pub record CellRow (type : ValueType) (body k : ℕ) : Type 0 where
+  pub form : CellForm
+  pub owns : ownForms k type body ≡ form ∷ []
+  pub typed : form .type ≡ type
+
+datum-typed : (type : ValueType) (body : ℕ) → typeOf (datumOf type body) ≡ type
+datum-typed boolean body = refl
+datum-typed number body = refl
+
+pub cell-row : (type : ValueType) (body k : ℕ) → 15 ≤ k → k < 18 → CellRow type body k
+cell-row type body = among (CellRow type body) (
+    record { form = preCell (datumOf type body); owns = refl; typed = datum-typed type body }
+    ▸ record { form = preCell (datumOf type body); owns = refl; typed = datum-typed type body }
+    ▸ record { form = fbyCell type; owns = refl; typed = refl }
+    ▸ end)
+
+-- the types that the code has for the operands, of which the first are the table's
+pub no-type : (ts : List ℕ) → length ts ≡ 0 → ts ≡ []
+no-type [] e = refl
+no-type (t ∷ ts) e = absurd (omega arith)
+
+pub one-type : (xs ts : List ℕ) → take 1 xs ≡ ts → length ts ≡ 1 → ts ≡ getD xs 0 0 ∷ []
+one-type [] ts e n = absurd (omega (arith, ap length e))
+one-type (x ∷ xs) ts e n = sym e
+
+pub two-types : (xs ts : List ℕ) → take 2 xs ≡ ts → length ts ≡ 2 → ts ≡ getD xs 0 0 ∷ getD xs 1 0 ∷ []
+two-types [] ts e n = absurd (omega (arith, ap length e))
+two-types (x ∷ []) ts e n = absurd (omega (arith, ap length e))
+two-types (x ∷ y ∷ xs) ts e n = sym e

@@ -1,0 +1,147 @@
+-- What the checks of a length and then of each part come to, and how those of the buffers make the answer.
+use Prim.Native.Nat.{ℕ, _+_, _*_, _-_, _≤_, _<_}
+use mathlib.Core.Path.{_≡_, refl, sym, ap, _∙_}
+use mathlib.Core.Bool.{Bool, true, false, cond}
+use mathlib.Core.List.{List, map}
+use native.Mathlib.Omega.{arith}
+use lib.Dec.{eqb}
+use lib.ListN.{length, take, drop, length-map}
+use lib.Seq.{sets, sets-eq, take-at}
+use borrow.Author.Tests.{eq-eqb, ne-eqb, lt-ltb, le-ltb}
+use Rattle.sheet.specs.Data.{typeOfByte}
+use Rattle.sheet.specs.Outcomes.{Outcome, refusal, result, followedBy, lowest, unlessLength, unlessAny}
+use Rattle.sheet.specs.Readings.{Reading, refused, got}
+use Rattle.sheet.specs.Sheets.{Sheet, sheetForms, before, readSheet, sheetOf, checkedOf, checkOf}
+use Rattle.sheet.specs.Memory.{memoryOf}
+use Rattle.sheet.specs.Rows.{inputsOf}
+use Rattle.sheet.specs.Laws.Headers.{section-good, section-length, sheet-view}
+use Rattle.sheet.specs.Laws.Typing.{read-passed, read-counted}
+use Rattle.sheet.specs.declared.Datum.{Datum}
+use Rattle.sheet.specs.declared.Cell.{Cell}
+use Rattle.sheet.specs.declared.Refusal.{Refusal}
+use Rattle.sheet.specs.declared.Refusal.the-variants.{TypeByte, OutputLength}
+use Rattle.sheet.specs.declared.Checked.the-variants.{Refused as CheckRefused, Passed as CheckPassed}
+use Rattle.kernel.specs.Calls.{givenOf}
+use Rattle.given.specs.Answers.{givenAnswer, testedOf, andTested, buffersTested}
+use Rattle.given.specs.declared.Given.{Given as Answer}
+use Rattle.given.specs.declared.Given.the-variants.{Refused as GivenRefused, Passed}
+use Rattle.given.specs.declared.Tested.{Tested}
+use Rattle.given.specs.declared.Tested.the-variants.{Refused, Fine}
+
+-- a length, then the lowest place that passes a test
+module _ {A : Type 0} (unfit wrong : Refusal) (n must bound : ℕ) (test : ℕ → Bool) (a : A) where
+  abbrev whole : Outcome A
+  whole = unlessLength unfit n must (unlessAny wrong test bound (result a))
+
+  pub length-off : (n ≡ must → ⊥) → Refused unfit 0 ≡ testedOf whole
+  length-off off = rw (ne-eqb n must off)
+
+  module _ (place : ℕ) (fits : n ≡ must) (found : place ≡ lowest test bound) where
+    pub place-wrong : place < bound → Refused wrong place ≡ testedOf whole
+    place-wrong l = rw (eq-eqb n must fits, ← found, lt-ltb place bound l)
+
+    pub none-wrong : bound ≤ place → Fine ≡ testedOf whole
+    none-wrong l = rw (eq-eqb n must fits, ← found, le-ltb place bound l)
+
+-- what is stored from the first place on stands there
+pub stored-first : (vs l : List ℕ) {after : List ℕ} {n : ℕ} → length vs ≡ n → n ≤ length l → after ≡ sets l 0 vs → vs ≡ take n after
+stored-first vs l {after} {n} e room stored =
+    sym (ap (take n) (stored ∙ sets-eq vs l 0 (omega arith)) ∙ take-at vs (drop (0 + length vs) l) n e)
+
+-- what a sheet that passes the check with these counts has
+pub record Passes (s : List ℕ) (inputs wires outputs cells : ℕ) : Type 0 where
+  pub sheet : Sheet
+  pub outcome : sheetOf s ≡ result sheet
+  pub within : 1 + inputs ≤ length s
+  pub types : map typeOfByte (take inputs (drop 1 s)) ≡ sheet .inputTypes
+  pub few-inputs : inputs ≤ 16
+  pub few-outputs : outputs ≤ 16
+  pub few-cells : cells ≤ 64
+  pub inputs-are : length (sheet .inputTypes) ≡ inputs
+  pub wires-are : length (sheet .wireTypes) ≡ wires
+  pub outputs-are : length (sheet .outputs) ≡ outputs
+  pub cells-are : length (sheetForms sheet) ≡ cells
+
+-- the tests by these counts are those of the sheet
+pub own-tests : {s : List ℕ} {i w o k : ℕ} (p : Passes s i w o k) (memory input output : List ℕ)
+    → buffersTested (sheetForms (p .sheet)) (map typeOfByte (take (1 + i - 1) (drop 1 s))) o memory input output
+    ≡ buffersTested (sheetForms (p .sheet)) (p .sheet .inputTypes) (length (p .sheet .outputs)) memory input output
+own-tests {i = i} p memory input output = let e : 1 + i - 1 ≡ i = omega arith in rw (e, p .types, p .outputs-are)
+
+-- and so are the counts
+abbrev countsOf : Sheet → Answer
+countsOf sheet = Passed (length (sheet .inputTypes)) (length (sheet .wireTypes)) (length (sheet .outputs)) (length (sheetForms sheet))
+
+pub own-counts : {s : List ℕ} {i w o k : ℕ} (p : Passes s i w o k) → Passed i w o k ≡ countsOf (p .sheet)
+own-counts p = rw (p .inputs-are, p .wires-are, p .outputs-are, p .cells-are)
+
+pub passes : (s : List ℕ) (i w o k : ℕ) → checkOf s ≡ CheckPassed i w o k → Passes s i w o k
+unfolding sheetOf
+passes s i w o k e = go (readSheet s) refl e
+  where
+    go : (x : Reading Sheet) → readSheet s ≡ x → checkedOf x ≡ CheckPassed i w o k → Passes s i w o k
+    go (refused why place) q h = absurd (let z : _≡_ {A = ℕ} 0 1 = cc in omega arith)
+    go (got sheet n j) q h =
+        let v = sheet-view s q in
+        let p = read-passed s q in
+        let g = section-good s 0 0 17 2 false TypeByte (v .inputs) in
+        let ins : length (sheet .inputTypes) ≡ i = cc in
+        let ws : length (sheet .wireTypes) ≡ w = cc in
+        let outs : length (sheet .outputs) ≡ o = cc in
+        let count : j ≡ k = cc in
+        let inputs : v .inputCount ≡ i =
+        sym (section-length g) ∙ sym (length-map (before s (v .inputsEnd) (v .inputCount)) typeOfByte)
+        ∙ sym (ap (λ x. length (x .inputTypes)) (v .is)) ∙ ins in
+        let start : v .inputsEnd - v .inputCount ≡ 1 = omega (arith, g .bytes .next) in
+        let bytes : before s (v .inputsEnd) (v .inputCount) ≡ take i (drop 1 s) = rw (start, inputs) in
+        record {
+          sheet = sheet;
+          outcome = rw q;
+          within = omega (arith, g .bytes .next, g .bytes .within, inputs);
+          types = sym (ap (λ x. x .inputTypes) (v .is) ∙ ap (map typeOfByte) bytes);
+          few-inputs = omega (arith, p .few-inputs);
+          few-outputs = omega (arith, p .few-outputs);
+          few-cells = omega (arith, p .few-cells, p .counted, read-counted s q, count);
+          inputs-are = ins;
+          wires-are = ws;
+          outputs-are = outs;
+          cells-are = sym (read-counted s q) ∙ count;
+        }
+
+-- the answer where 1 to 11 are passed
+abbrev answered : Answer → Tested → Answer
+answered counts (Refused why place) = GivenRefused why place
+answered counts Fine = counts
+
+module _ (s memory input output : List ℕ) where
+  pub sheet-refused : {why : Refusal} {place : ℕ} → checkOf s ≡ CheckRefused why place
+      → GivenRefused why place ≡ givenAnswer (givenOf s memory input output)
+  unfolding sheetOf givenOf
+  sheet-refused {why} {place} e = go (readSheet s) refl e
+    where
+      go : (x : Reading Sheet) → readSheet s ≡ x → checkedOf x ≡ CheckRefused why place
+          → GivenRefused why place ≡ givenAnswer (givenOf s memory input output)
+      go (refused w p) q h = rw q (cc)
+      go (got sheet n j) q h = absurd (let z : _≡_ {A = ℕ} 0 1 = cc in omega arith)
+
+  module _ {sheet : Sheet} (e : sheetOf s ≡ result sheet) where
+    abbrev buffers : Tested
+    buffers = buffersTested (sheetForms sheet) (sheet .inputTypes) (length (sheet .outputs)) memory input output
+
+    abbrev tests : Outcome (List Cell) → Outcome (List Datum) → Bool → Tested
+    tests m i t = andTested (testedOf m) (andTested (testedOf i) (cond t Fine (Refused OutputLength 0)))
+
+    pub buffers-answer : {x : Tested} → x ≡ buffers → answered (countsOf sheet) x ≡ givenAnswer (givenOf s memory input output)
+    unfolding givenOf
+    buffers-answer h =
+        rw (h, e) (go (memoryOf (sheetForms sheet) memory) (inputsOf (sheet .inputTypes) input)
+        (eqb (length output) (4 * length (sheet .outputs))))
+      where
+        go : (m : Outcome (List Cell)) (i : Outcome (List Datum)) (t : Bool)
+            → answered (countsOf sheet) (tests m i t)
+            ≡ givenAnswer (followedBy m (λ cells. followedBy i (λ inputs.
+            cond t (result (record { sheet = sheet; inputs = inputs; memory = cells })) (refusal OutputLength 0))))
+        go (refusal w p) i t = refl
+        go (result c) (refusal w p) t = refl
+        go (result c) (result d) true = refl
+        go (result c) (result d) false = refl

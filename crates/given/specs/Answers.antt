@@ -1,0 +1,41 @@
+-- What the checks of the buffers answer.
+use Prim.Native.Nat.{ℕ, _*_}
+use mathlib.Core.Bool.{cond}
+use mathlib.Core.List.{List}
+use lib.Dec.{eqb}
+use lib.ListN.{length}
+use Rattle.sheet.specs.Data.{ValueType}
+use Rattle.sheet.specs.Expressions.{CellForm}
+use Rattle.sheet.specs.Outcomes.{Outcome, refusal, result}
+use Rattle.sheet.specs.Sheets.{sheetForms}
+use Rattle.sheet.specs.Memory.{memoryOf}
+use Rattle.sheet.specs.Rows.{inputsOf}
+use Rattle.sheet.specs.declared.Refusal.the-variants.{OutputLength}
+use Rattle.kernel.specs.Calls.{Given}
+use Rattle.given.specs.declared.Given.{Given as Answer}
+use Rattle.given.specs.declared.Given.the-variants.{Refused, Passed}
+use Rattle.given.specs.declared.Tested.{Tested}
+use Rattle.given.specs.declared.Tested.the-variants.{Refused as TestRefused, Fine}
+
+-- the refusal, or the four counts of the sheet
+abbrev pub givenAnswer : Outcome Given → Answer
+givenAnswer (refusal why place) = Refused why place
+givenAnswer (result g) =
+    Passed (length (g .sheet .inputTypes)) (length (g .sheet .wireTypes)) (length (g .sheet .outputs)) (length (sheetForms (g .sheet)))
+
+-- an outcome without its result
+abbrev pub testedOf : {A : Type 0} → Outcome A → Tested
+testedOf (refusal why place) = TestRefused why place
+testedOf (result a) = Fine
+
+-- a test that refuses ends the tests
+abbrev pub andTested : Tested → Tested → Tested
+andTested (TestRefused why place) next = TestRefused why place
+andTested Fine next = next
+
+-- 12 to 16, of a sheet with cells of these forms, inputs of these types and so many outputs
+abbrev pub buffersTested : List CellForm → List ValueType → (outputs : ℕ) → (memory input output : List ℕ) → Tested
+buffersTested forms types outputs memory input output =
+    andTested (testedOf (memoryOf forms memory))
+    (andTested (testedOf (inputsOf types input))
+    (cond (eqb (length output) (4 * outputs)) Fine (TestRefused OutputLength 0)))

@@ -1,0 +1,50 @@
+-- Pieces put one after another are one piece, and what is put at the start of a buffer is the line that it holds.
+use Prim.Native.Nat.{ℕ, suc, _+_, _≤_, _<_}
+use mathlib.Core.Path.{_≡_, refl, ap, sym, _∙_}
+use mathlib.Core.List.{List, [], _∷_, _++_}
+use native.Mathlib.Omega.{arith}
+use native.Mathlib.Nat.{add-zero, add-suc, suc-add}
+use native.Mathlib.Numerals.{add-one}
+use lib.ListN.{length, take, drop, getD, set, length-append}
+use lib.Seq.{sets, sets-eq, length-sets, take-suc, take-all, take-at, length-take-le}
+use Rattle.lines.specs.Buffers.{Puts, Holds}
+
+-- two runs of stores, the second where the first ends, are one
+sets-append : (x l : List ℕ) (i : ℕ) (y : List ℕ) → sets l i (x ++ y) ≡ sets (sets l i x) (i + length x) y
+sets-append [] l i y = rw add-zero
+sets-append (a ∷ x) l i y = rw (add-suc, ← suc-add) (sets-append x (set l i a) (suc i) y)
+
+-- one piece, then another at the place past it
+pub then : {before middle after x y : List ℕ} {at next past : ℕ}
+    → Puts before at x middle next → Puts middle next y after past → Puts before at (x ++ y) after past
+then {before} {middle} {after} {x} {y} {at} {next} {past} p q = record {
+  placed = q .placed ∙ rw (p .placed, p .passed) (sym (sets-append x before at y));
+  passed = rw length-append (omega (arith, p .passed, q .passed));
+}
+
+-- a text put byte by byte: one byte more, and all of it
+pub more : (l : List ℕ) (at : ℕ) (text after : List ℕ) (i : ℕ) → i < length text → after ≡ sets l at (take i text)
+    → set after (at + i) (getD text i 0) ≡ sets l at (take (i + 1) text)
+more l at text after i h e =
+    rw (e, add-one, take-suc text i 0 h, sets-append (take i text) l at (getD text i 0 ∷ []), length-take-le i text (omega arith))
+
+pub all : (l : List ℕ) (at : ℕ) (text after : List ℕ) (i : ℕ) → length text ≤ i → i ≤ length text → after ≡ sets l at (take i text)
+    → Puts l at text after (at + i)
+all l at text after i g h e = record { placed = rw (take-all i text g) at e; passed = omega arith }
+
+-- a line put at the start of a buffer that has room for it
+whole : (before after line : List ℕ) (size : ℕ) → after ≡ sets before 0 line → size ≡ length line → size ≤ length before
+    → take size after ≡ line
+whole before after line size e s h =
+    rw (e, sets-eq line before 0 (omega arith)) (take-at line (drop (0 + length line) before) size (sym s))
+
+pub held : {before after line : List ℕ} {size : ℕ} → Puts before 0 line after size → size ≤ length before → Holds after size line
+held {before} {after} {line} {size} p h =
+    let sized : size ≡ length line = omega (arith, p .passed) in
+    let all = whole before after line size (p .placed) sized h in
+    record {
+      sized = sized;
+      held = all;
+      within = rw (p .placed, length-sets before 0 line) h;
+      counted = sized ∙ ap length (sym all);
+    }

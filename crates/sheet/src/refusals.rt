@@ -1,0 +1,32 @@
+// The numbers of refusals, as document 01 counts them. It rests on nothing.
+use crate::Refusal;
+ghost use mathlib.Core.Path.{_≡_};
+ghost use Rattle.sheet.specs.Outcomes.{numberOf};
+
+// The number of a refusal.
+pub fn number(why: Refusal) -> u32
+    ensures { λ r. ⌜ r ≡ numberOf why ⌝ }
+{
+    match why {
+        Refusal::SheetLength => 1,
+        Refusal::Cut => 2,
+        Refusal::CountRange => 3,
+        Refusal::TypeByte => 4,
+        Refusal::OutputWire => 5,
+        Refusal::Kind => 6,
+        Refusal::Body => 7,
+        Refusal::Level => 8,
+        Refusal::TypeAsked => 9,
+        Refusal::CellLimit => 10,
+        Refusal::LeftOver => 11,
+        Refusal::MemoryLength => 12,
+        Refusal::CellContent => 13,
+        Refusal::InputLength => 14,
+        Refusal::InputContent => 15,
+        Refusal::OutputLength => 16,
+        Refusal::ScheduleLength => 17,
+        Refusal::ScheduleEntry => 18,
+        Refusal::ScheduleOrder => 19,
+        Refusal::StaysUnknown => 20,
+    }
+}

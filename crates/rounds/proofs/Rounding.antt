@@ -31,7 +31,7 @@ use Rattle.kernel.specs.declared.Value.the-variants.{Known}
 use Rattle.expression.specs.declared.Valued.{Valued}
 use Rattle.expression.specs.Places.{valueOfWord, Stands, CellsStand, Placement, valuedOf}
 use Rattle.expression.proofs.Views.{cells-split}
-use Rattle.rounds.specs.Running.{Held, unheld, held, Holds, roundOf, Before, Put, passed, put}
+use Rattle.rounds.specs.Running.{Running, Held, unheld, held, Holds, roundOf, Before, Put, passed, put}
 
 -- a value of its type is what the set and its word say
 stands-for : {b : Bool} {word : ℕ} {v : Value} {t : ValueType} → Held b word v → Fits t v → v ≡ valueOfWord b t word
@@ -39,7 +39,7 @@ stands-for unheld f = refl
 stands-for {t = t} (held {d = d} e) (known-fits i) = ap Known (sym (word-back t d i) ∙ ap (datumOf t) (sym e))
 
 -- what holds at w, and at x where x is another
-at-or-else : (P : ℕ → Type 0) (w x : ℕ) → P w → (x ≢ w → P x) → P x
+pub at-or-else : (P : ℕ → Type 0) (w x : ℕ) → P w → (x ≢ w → P x) → P x
 at-or-else P w x here there = go (eqb x w) refl
   where
     go : (t : Bool) → eqb x w ≡ t → P x
@@ -52,7 +52,7 @@ module _ {w bits after : ℕ} {words new : List ℕ} where
   put-length (passed m e) = ap length e
   put-length (put m e) = ap length e ∙ simp length-set
 
-  put-other : {v : Value} → Put w bits words v after new → (x : ℕ) → x ≢ w
+  pub put-other : {v : Value} → Put w bits words v after new → (x : ℕ) → x ≢ w
       → (member after x ≡ member bits x) × (getD new x 0 ≡ getD words x 0)
   put-other (passed m e) x other = (rw m, rw e)
   put-other (put m e) x other = (m x ∙ rw (ne-eqb x w other) (or-false (member bits x)), rw e (getD-set-other words w x _ 0 other))
@@ -61,7 +61,7 @@ module _ {w bits after : ℕ} {words new : List ℕ} where
       or-false true = refl
       or-false false = refl
 
-  put-held : {v : Value} → Put w bits words v after new → w < length words → member bits w ≡ false → Held (member after w) (getD new w 0) v
+  pub put-held : {v : Value} → Put w bits words v after new → w < length words → member bits w ≡ false → Held (member after w) (getD new w 0) v
   put-held (passed m e) l out = rw (m, out) unheld
   put-held (put m e) l out = rw (m w, out, eq-eqb w w refl) (held (ap (λ x. getD x w 0) e ∙ getD-set-same words w _ 0 l))
 
@@ -70,6 +70,20 @@ module _ {w bits after : ℕ} {words new : List ℕ} where
       → Held b (getD new w 0) u
   put-kept p l below unheld = unheld
   put-kept (put m e) l same (held f) = held (ap (λ x. getD x w 0) e ∙ getD-set-same words w _ 0 l)
+
+-- the set and the words that hold typed values stand for them
+pub running-stands : {s memory input types words : List ℕ} {first bits : ℕ} {values : List Value} (r : Running s memory input types first)
+    → Holds (length types) bits words values → OnWires Fits (r .given .sheet .wireTypes) values
+    → Stands (r .inputs) types input words bits (under (r .given .inputs) (r .given .memory) values)
+unfolding OnWires
+running-stands {types = types} r h typed =
+    record {
+      inputSize = r .inputSize;
+      onInputs = r .onInputs;
+      wireLimit = r .few;
+      wordSize = h .room;
+      onWires = λ w l. stands-for (h .each w l) (typed w (typeOfByte (getD types w 0)) (rw (r .wireTypes) (type-of-named types w l refl)));
+    }
 
 module _ {s memory input types start : List ℕ} {first bits : ℕ} (b : Before s memory input types first bits start) where
   abbrev pub environment : Environment
@@ -143,17 +157,7 @@ module _ {s memory input types start : List ℕ} {first bits : ℕ} (b : Before 
 
   pub stands : {words : List ℕ} → Holds (length types) bits words (b .values)
       → Stands (b .running .inputs) types input words bits environment
-  unfolding OnWires
-  stands h =
-      let r = b .running in
-      record {
-        inputSize = r .inputSize;
-        onInputs = r .onInputs;
-        wireLimit = r .few;
-        wordSize = h .room;
-        onWires = λ w l.
-            stands-for (h .each w l) (b .typed w (typeOfByte (getD types w 0)) (rw (r .wireTypes) (type-of-named types w l refl)));
-      }
+  stands h = running-stands (b .running) h (b .typed)
 
   -- where the expression of wire w stands
   abbrev pub placed : {w at cell grown : ℕ} {words : List ℕ} → Midway w at cell grown words → w < length types

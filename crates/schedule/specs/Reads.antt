@@ -7,11 +7,13 @@ use lib.Dec.{eqb}
 use lib.ListN.{length, getD}
 use Rattle.sheet.specs.Expressions.{Expression}
 use Rattle.sheet.specs.Readings.{got, readExpression, bodyAt, Whole}
+use Rattle.sheet.specs.Kinds.{digitOf}
 use Rattle.wires.specs.Sets.{member}
 
--- how many operands of a kind are read within the instant, the first ones: none of a pre's, the left one of an fby's
+-- how many operands of a kind are read within the instant, the first ones, an octal digit to a kind, that of kind 0 last: none of
+-- a pre's, the left one of an fby's
 abbrev pub heardOf : ℕ → ℕ
-heardOf k = getD (0 ∷ 0 ∷ 0 ∷ 0 ∷ 1 ∷ 1 ∷ 2 ∷ 2 ∷ 2 ∷ 2 ∷ 2 ∷ 2 ∷ 3 ∷ 3 ∷ 2 ∷ 0 ∷ 0 ∷ 1 ∷ []) k 0
+heardOf = digitOf 0o100233222222110000
 
 -- the wire that an expression of kind k names, by the number in its body
 abbrev pub wiresNamed : ℕ → ℕ → List ℕ

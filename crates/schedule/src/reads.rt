@@ -9,8 +9,9 @@ ghost use Prim.Native.Nat.{_<_};
 ghost use Rattle.kernel.specs.Reads.{wiresRead};
 ghost use Rattle.schedule.specs.Reads.{heardOf, namedWires, allIn, Own, ReadsAt};
 
-// How many operands are read within the instant, by the kind: all of them, but not a pre's, and of an fby's only the left.
-const HEARD: [usize; 18] = [0, 0, 0, 0, 1, 1, 2, 2, 2, 2, 2, 2, 3, 3, 2, 0, 0, 1];
+// How many operands are read within the instant, an octal digit to a kind as in `kinds`: all of them, but not a pre's, and of an
+// fby's only the left.
+const HEARD: u64 = 0o100233222222110000;
 
 // Whether an expression reads only wires of a set, where it ends, and the number of the first cell past its own.
 pub struct ReadsFound {
@@ -24,7 +25,7 @@ fn heard(kind: u8) -> usize
     requires { ⌜ kind < 18 ⌝ }
     ensures { λ r. ⌜ r ≡ heardOf kind ⌝ }
 {
-    HEARD[kind as usize]
+    kinds::digit(HEARD, kind) as usize
 }
 
 // Whether the expression at `at` itself names no wire, or one that is `allowed`.

@@ -1,5 +1,5 @@
 -- Document 01's table of kinds, a row to a kind: bytes of body, cells owned, types of the operands, own type, and the tree.
-use Prim.Native.Nat.{ℕ}
+use Prim.Native.Nat.{ℕ, _*_, _/_, _%_, _^_}
 use mathlib.Core.Bool.{Bool, false, cond}
 use mathlib.Core.List.{List, [], _∷_, map}
 use lib.ListN.{length, getD}
@@ -126,3 +126,7 @@ limitOf inputs wires k = cond (eqb (ownTypeOf k) named-wire) (length wires) (con
 abbrev pub foundOf : List ℕ → List ℕ → ℕ → ℕ → ℕ → ℕ
 foundOf inputs wires t k n =
     cond (eqb (ownTypeOf k) named-wire) (getD wires n 0) (cond (eqb (ownTypeOf k) named-input) (getD inputs n 0) (typed t (ownTypeOf k)))
+
+-- the octal digit at place k of a number: how the code holds a column of the table
+abbrev pub digitOf : ℕ → ℕ → ℕ
+digitOf column k = column / 2 ^ (3 * k) % 8

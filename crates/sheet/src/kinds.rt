@@ -1,9 +1,9 @@
-// The table of kinds, a column to an array, where the kind is the index. It rests on nothing; specs/Kinds.antt has the same
+// The table of kinds, a column to a number. It rests on nothing; specs/Kinds.antt has the same
 // table, a row to a kind.
 ghost use mathlib.Core.Path.{_≡_};
 ghost use Prim.Native.Nat.{_<_};
 ghost use lib.ListN.{take};
-ghost use Rattle.sheet.specs.Kinds.{bodyOf, cellsOf, countOf, ownTypeOf, typed, operandsOf, limitOf, foundOf};
+ghost use Rattle.sheet.specs.Kinds.{bodyOf, cellsOf, countOf, ownTypeOf, typed, operandsOf, limitOf, foundOf, digitOf};
 
 // A type is 0 for a Boolean or 1 for a number; or, in the table alone, the type asked, the named wire's or the named input's.
 const ASKED: u8 = 4;
@@ -12,27 +12,34 @@ const WIRE: u8 = 5;
 
 const INPUT: u8 = 6;
 
-// The columns, by the kind: bytes of body, cells owned, own type, count of operands, and the types of these.
-const BODIES: [usize; 18] = [1, 4, 1, 1, 0, 0, 0, 0, 0, 0, 0, 0, 0, 0, 0, 1, 4, 0];
+// The columns, each a number with one octal digit to a kind, that of kind 0 last, so that a digit is found by a shift: bytes of
+// body, cells owned, own type, count of operands, the type of the first operand and that of every later one.
+const BODIES: u64 = 0o041000000000001141;
 
-const CELLS: [usize; 18] = [0, 0, 0, 0, 0, 0, 0, 0, 0, 0, 0, 0, 0, 0, 0, 1, 1, 1];
+const CELLS: u64 = 0o111000000000000000;
 
-const OWN_TYPES: [u8; 18] = [0, 1, 5, 6, 0, 1, 0, 0, 1, 1, 0, 0, 4, 4, 4, 0, 1, 4];
+const OWN_TYPES: u64 = 0o410444001100106510;
 
-const OPERANDS: [usize; 18] = [0, 0, 0, 0, 1, 1, 2, 2, 2, 2, 2, 2, 3, 3, 2, 1, 1, 2];
+const OPERANDS: u64 = 0o211233222222110000;
 
-// The type of the first operand.
-const FIRST: [u8; 18] = [0, 0, 0, 0, 0, 1, 0, 0, 1, 1, 1, 1, 0, 0, 0, 0, 1, 4];
+const FIRST: u64 = 0o410000111100100000;
 
-// The type of every operand behind the first.
-const LATER: [u8; 18] = [0, 0, 0, 0, 0, 0, 0, 0, 1, 1, 1, 1, 4, 4, 4, 0, 0, 4];
+const LATER: u64 = 0o400444111100000000;
+
+// The digit of a column for a kind.
+pub fn digit(column: u64, kind: u8) -> u8
+    requires { ⌜ kind < 18 ⌝ }
+    ensures { λ r. ⌜ r ≡ digitOf column kind ⌝ }
+{
+    ((column >> (3 * (kind as u32))) % 8) as u8
+}
 
 // How many bytes of body follow the kind byte.
 pub fn body(kind: u8) -> usize
     requires { ⌜ kind < 18 ⌝ }
     ensures { λ r. ⌜ r ≡ bodyOf kind ⌝ }
 {
-    BODIES[kind as usize]
+    digit(BODIES, kind) as usize
 }
 
 // How many cells an expression of this kind owns, besides its operands'.
@@ -40,7 +47,7 @@ pub fn cells(kind: u8) -> usize
     requires { ⌜ kind < 18 ⌝ }
     ensures { λ r. ⌜ r ≡ cellsOf kind ⌝ }
 {
-    CELLS[kind as usize]
+    digit(CELLS, kind) as usize
 }
 
 // The type of an expression of this kind, as the table gives it.
@@ -48,7 +55,7 @@ pub fn own_type(kind: u8) -> u8
     requires { ⌜ kind < 18 ⌝ }
     ensures { λ r. ⌜ r ≡ ownTypeOf kind ⌝ }
 {
-    OWN_TYPES[kind as usize]
+    digit(OWN_TYPES, kind)
 }
 
 // How many operands follow the body.
@@ -56,7 +63,7 @@ pub fn operands(kind: u8) -> usize
     requires { ⌜ kind < 18 ⌝ }
     ensures { λ r. ⌜ r ≡ countOf kind ⌝ }
 {
-    OPERANDS[kind as usize]
+    digit(OPERANDS, kind) as usize
 }
 
 // A type of the table where `asked` is asked.
@@ -71,8 +78,8 @@ pub fn operand_types(kind: u8, asked: u8) -> [u8; 3]
     requires { ⌜ kind < 18 ⌝ }
     ensures { λ r. ⌜ take (countOf kind) r ≡ operandsOf kind asked ⌝ }
 {
-    let first = typed_as(FIRST[kind as usize], asked);
-    let later = typed_as(LATER[kind as usize], asked);
+    let first = typed_as(digit(FIRST, kind), asked);
+    let later = typed_as(digit(LATER, kind), asked);
     [first, later, later]
 }
 

@@ -1,0 +1,78 @@
+-- Buffers that passed 1 to 16, by the parts of the sheet that the code takes: they run, and their outputs are wires.
+use Prim.Native.Nat.{ℕ, _+_, _-_, _*_, _≤_, _<_}
+use mathlib.Core.Path.{_≡_, refl, sym, ap, ap₂, _∙_}
+use mathlib.Core.List.{List}
+use native.Mathlib.Omega.{arith}
+use lib.ListN.{length, getD, take, drop}
+use Rattle.sheet.specs.Outcomes.{result}
+use Rattle.sheet.specs.Laws.Typing.{passed-check}
+use Rattle.kernel.specs.Instants.{wireCount}
+use Rattle.kernel.specs.Calls.{Given, givenOf}
+use Rattle.kernel.specs.Laws.Given.{given-by}
+use Rattle.rounds.specs.Running.{Running}
+use Rattle.rounds.specs.Outputs.{Below}
+use Rattle.rounds.specs.Laws.Running.{Bytes, parts}
+use Rattle.instant.specs.Leaves.{Granted}
+
+-- the wires' type bytes, the outputs' bytes, and where the expressions begin
+module _ (s : List ℕ) (inputs wires outputs : ℕ) where
+  abbrev pub typesAt : List ℕ
+  typesAt = take (2 + inputs + wires - (2 + inputs)) (drop (2 + inputs) s)
+
+  abbrev pub outputsAt : List ℕ
+  outputsAt = take (2 + inputs + wires + 1 + outputs - (2 + inputs + wires + 1)) (drop (2 + inputs + wires + 1) s)
+
+  abbrev pub firstAt : ℕ
+  firstAt = 2 + inputs + wires + 1 + outputs
+
+pub record Laid (s memory input output : List ℕ) (inputs wires outputs : ℕ) : Type 0 where
+  pub running : Running s memory input (typesAt s inputs wires outputs) (firstAt s inputs wires outputs)
+  pub passes : givenOf s memory input output ≡ result (running .given)
+  pub outs : running .given .sheet .outputs ≡ outputsAt s inputs wires outputs
+  pub wired : wireCount (running .given .sheet) ≡ length (typesAt s inputs wires outputs)
+  pub below : Below (length (typesAt s inputs wires outputs)) (running .given .sheet .outputs)
+  pub row : length output ≡ 4 * length (outputsAt s inputs wires outputs)
+  pub within : firstAt s inputs wires outputs ≤ length s
+
+-- what runs, by equal names
+record Runs (s memory input types : List ℕ) (first : ℕ) (given : Given) : Type 0 where
+  running : Running s memory input types first
+  same : running .given ≡ given
+
+renamed : {s memory input types others : List ℕ} {first at : ℕ} {given : Given} → types ≡ others → first ≡ at
+    → Runs s memory input types first given → Runs s memory input others at given
+renamed p q r = rw (p, q) at r
+
+module _ {s memory input output : List ℕ} {inputs wires outputs : ℕ} (g : Granted s memory input output inputs wires outputs) where
+  pub laid : ((i : ℕ) → getD memory i 0 < 256) → Laid s memory input output inputs wires outputs
+  unfolding Below
+  laid small =
+      let given = g .given in
+      let p = parts s memory input output given (g .passes) small in
+      let by = given-by s memory input output given (g .passes) in
+      let passed = passed-check s (by .sheet) in
+      let i = g .ofInputs in
+      let w = g .ofWires in
+      let o = g .ofOutputs in
+      let types : take (length (given .sheet .wireTypes)) (drop (2 + length (given .sheet .inputTypes)) s) ≡ typesAt s inputs wires outputs =
+      let size : length (given .sheet .wireTypes) ≡ 2 + inputs + wires - (2 + inputs) = omega arith in
+      let from : 2 + length (given .sheet .inputTypes) ≡ 2 + inputs = omega arith in
+      ap₂ (λ (a b : ℕ). take a (drop b s)) size from in
+      let outs : given .sheet .outputs ≡ outputsAt s inputs wires outputs =
+      let size : length (given .sheet .outputs) ≡ 2 + inputs + wires + 1 + outputs - (2 + inputs + wires + 1) = omega arith in
+      let from : 3 + length (given .sheet .inputTypes) + length (given .sheet .wireTypes) ≡ 2 + inputs + wires + 1 = omega arith in
+      p .outputs ∙ ap₂ (λ (a b : ℕ). take a (drop b s)) size from in
+      let wired : length (given .sheet .expressions) ≡ length (typesAt s inputs wires outputs) =
+      sym (passed .same-length) ∙ sym (p .sized) ∙ ap length types in
+      let first : 3 + length (given .sheet .inputTypes) + length (given .sheet .wireTypes) + length (given .sheet .outputs)
+      ≡ firstAt s inputs wires outputs = omega arith in
+      let r = renamed types first (record { running = p .running; same = p .same }) in
+      record {
+        running = r .running;
+        passes = rw (r .same) (g .passes);
+        outs = rw (r .same) outs;
+        wired = rw (r .same) wired;
+        below = rw (r .same) (λ k l. omega (arith, wired, passed .outputs-are-wires k l));
+        row = by .outputs ∙ ap (λ (l : List ℕ). 4 * length l) outs;
+        within = omega (arith, p .within);
+      }

@@ -1,0 +1,131 @@
+-- `solve_in_rounds` meets its contract.
+use mathlib.Core.Path.{sym, _∙_}
+use native.Mathlib.Omega.{arith}
+use borrow.Author.Needs.{needs}
+use Rattle.instant.proofs.Laying.{Laid, laid}
+use Rattle.instant.proofs.Calling.{settled, row-fits, unknown-refused, rounds-accepted}
+use Rattle.instant.proofs.solve_in_rounds.Statement.{statement}
+use Rattle.instant.proofs.solve_in_rounds.Tie as tie
+use Rattle.instant.proofs.solve_in_rounds.Reads as reads
+use Rattle.instant.proofs.solve_in_rounds.Lts as lts
+use Rattle.instant.proofs.store.store.Reads as store-reads
+use Rattle.rounds.proofs.finish.Reads as finish-reads
+use Rattle.rounds.proofs.write_row.Reads as write-row-reads
+use Rattle.wires.proofs.Wires.count.Reads as count-reads
+use Rattle.wires.proofs.Wires.lowest_missing.Reads as lowest-missing-reads
+
+-- the parts of the sheet, where the memory is known to hold bytes
+laid-of : (c : tie.After-slice-known) → Laid (c .before .before .args .sheet .now) (c .before .before .args .memory .now) (c .before .before .args .input .now) (c .before .before .args .output .now)
+    (c .before .before .args .inputs) (c .before .before .args .wires) (c .before .before .args .outputs)
+laid-of c = laid (c .before .before .pre) (λ i. omega (arith, c .slice-known .given i))
+
+add-from : tie.Need-add-from
+add-from c = omega (arith, laid-of (c .before .before) .within)
+
+add-to : tie.Need-add-to
+add-to c = omega (arith, laid-of (c .before .before) .within)
+
+add-named : tie.Need-add-named
+add-named c = omega (arith, laid-of (c .before .before) .within)
+
+add-first : tie.Need-add-first
+add-first c = omega (arith, laid-of (c .before .before) .within)
+
+sub-types : tie.Need-sub-types
+sub-types c = search needs
+
+part-types-start : tie.Need-part-types-start
+part-types-start c = search needs
+
+part-types-end : tie.Need-part-types-end
+part-types-end c = omega (arith, laid-of (c .before .before) .within)
+
+slice-aggregate-finish : tie.Need-slice-aggregate-finish
+slice-aggregate-finish c = search needs
+
+finish-requires : tie.Need-finish-requires
+finish-requires c κs = let l = laid-of (c .before .before .before .before .before) in (l .running, l .running .few)
+
+count-requires : tie.Need-count-requires
+count-requires c κs = search needs
+
+cast-if1 : tie.Need-cast-if1
+cast-if1 c = search needs
+
+lowest-missing-requires : tie.Need-lowest-missing-requires
+lowest-missing-requires c κs = search needs
+
+cast-t28 : tie.Need-cast-t28
+cast-t28 c = search needs
+
+same-length : tie.Need-same-length
+same-length c = search needs
+
+returns : tie.Need-returns
+returns c =
+    let l = laid-of (c .before .before .before .before .before .before .before .before .before .before .before) in
+    unknown-refused l (c .before .before .before .before .before .finish .ensures (l .running) .0) (λ e. c .before .if1 .taken (c .before .before .count .ensures ∙ e)) (c .lowest-missing .ensures)
+
+slice-aggregate-store : tie.Need-slice-aggregate-store
+slice-aggregate-store c = search needs
+
+store-requires : tie.Need-store-requires
+store-requires c κs = let l = laid-of (c .before .before .before .before .before .before .before .before .before .before .before .before) in settled l (c .before .before .before .before .before .before .finish .ensures (l .running) .0)
+
+sub-write-row : tie.Need-sub-write-row
+sub-write-row c = search needs
+
+part-write-row-start : tie.Need-part-write-row-start
+part-write-row-start c = search needs
+
+part-write-row-end : tie.Need-part-write-row-end
+part-write-row-end c = omega (arith, laid-of (c .before .before .before .before .before .before .before .before .before .before .before .before .before .before .before) .within)
+
+slice-aggregate-write-row : tie.Need-slice-aggregate-write-row
+slice-aggregate-write-row c = search needs
+
+write-row-requires : tie.Need-write-row-requires
+write-row-requires c κs = let l = laid-of (c .before .before .before .before .before .before .before .before .before .before .before .before .before .before .before .before .before .before) in row-fits l (c .before .before .before .before .before .before .before .before .before .before .before .before .finish .ensures (l .running) .0)
+
+same-length-2 : tie.Need-same-length-2
+same-length-2 c = search needs
+
+same-length-3 : tie.Need-same-length-3
+same-length-3 c = search needs
+
+returns-2 : tie.Need-returns-2
+returns-2 c =
+    let l = laid-of (c .before .before .before .before .before .before .before .before .before .before .before .before .before .before .before .before .before .before .before .before .before) in
+    let h = c .before .before .before .before .before .before .before .before .before .before .before .before .before .before .before .finish .ensures (l .running) .0 in
+    rounds-accepted l h (sym (c .before .before .before .before .before .before .before .before .before .before .before .before .count .ensures) ∙ c .before .before .before .before .before .before .before .before .before .before .before .if1 .left)
+    (c .before .before .before .before .before .before .before .before .before .before .before .before .before .before .before .finish .ensures (l .running) .1) (c .before .before .before .before .before .before .before .before .store .ensures (settled l h)) (c .before .before .write-row .ensures)
+
+pub solve-in-rounds-spec : {M : Type 1} → statement M
+solve-in-rounds-spec =
+    tie.close
+    (tie.spec
+    add-from
+    add-to
+    add-named
+    add-first
+    sub-types
+    part-types-start
+    part-types-end
+    slice-aggregate-finish
+    finish-requires
+    count-requires
+    cast-if1
+    lowest-missing-requires
+    cast-t28
+    same-length
+    returns
+    slice-aggregate-store
+    store-requires
+    sub-write-row
+    part-write-row-start
+    part-write-row-end
+    slice-aggregate-write-row
+    write-row-requires
+    same-length-2
+    same-length-3
+    returns-2)

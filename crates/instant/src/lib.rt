@@ -1,0 +1,141 @@
+// The two instants as calls, in rounds and along a schedule: the checks, the values, then the next memory and the outputs.
+// Rests on `given` for the checks 1 to 16, on `schedule` for 17 to 19, and on `rounds` and `pass` for the values.
+use given::Given;
+use kernel::InRounds;
+use kernel::Scheduled;
+use schedule::Ordered;
+use sheet::Refusal;
+use sheet_walk::starts;
+
+pub mod pass;
+pub mod store;
+
+ghost use Rattle.kernel.specs.Calls.{roundsCall, scheduledCall};
+ghost use Rattle.instant.specs.Leaves.{Granted, Leaves};
+
+// The instant in rounds.
+pub fn in_rounds(sheet: &[u8], memory: &mut [u8], input: &[u8], output: &mut [u8]) -> InRounds
+    ensures { λ r. ⌜ Leaves (roundsCall (now (sheet .entry)) (now (memory .entry)) (now (input .entry)) (now (output .entry)))
+        r (now (memory .exit)) (now (output .exit)) ⌝ }
+{
+    match given::given_of(sheet, memory, input, output) {
+        Given::Refused { why, place } => InRounds::Refused { why, place },
+        Given::Passed {
+            inputs,
+            wires,
+            outputs,
+            cells: _,
+        } => solve_in_rounds(sheet, memory, input, output, inputs, wires, outputs),
+    }
+}
+
+// The instant in rounds, of buffers that passed 1 to 16, by the counts of the sheet: 20, or what the finished values leave.
+fn solve_in_rounds(
+    sheet: &[u8],
+    memory: &mut [u8],
+    input: &[u8],
+    output: &mut [u8],
+    inputs: usize,
+    wires: usize,
+    outputs: usize,
+) -> InRounds
+    requires { ⌜ Granted (now sheet) (now memory) (now input) (now output) inputs wires outputs ⌝ }
+    ensures { λ r. ⌜ Leaves (roundsCall (now (sheet .entry)) (now (memory .entry)) (now (input .entry)) (now (output .entry)))
+        r (now (memory .exit)) (now (output .exit)) ⌝ }
+{
+    let from = 2 + inputs;
+    let to = from + wires;
+    let named = to + 1;
+    let first = named + outputs;
+    let types = &sheet[from..to];
+    let mut words = [0u32; 64];
+    let solved = rounds::finish(sheet, memory, input, types, first, &mut words);
+    let known = solved.known;
+    if known.count() as usize != types.len() {
+        return InRounds::Refused {
+            why: Refusal::StaysUnknown,
+            place: known.lowest_missing() as usize,
+        };
+    }
+    store::store(sheet, memory, input, types, first, known, &words);
+    rounds::write_row(&sheet[named..first], &words, output);
+    InRounds::Accepted {
+        rounds: solved.rounds,
+    }
+}
+
+// The instant along a schedule.
+pub fn along_schedule(
+    sheet: &[u8],
+    memory: &mut [u8],
+    input: &[u8],
+    output: &mut [u8],
+    schedule: &[u8],
+) -> Scheduled
+    ensures { λ r. ⌜ Leaves (scheduledCall (now (sheet .entry)) (now (memory .entry)) (now (input .entry)) (now (output .entry))
+        (now (schedule .entry))) r (now (memory .exit)) (now (output .exit)) ⌝ }
+{
+    match given::given_of(sheet, memory, input, output) {
+        Given::Refused { why, place } => Scheduled::Refused { why, place },
+        Given::Passed {
+            inputs,
+            wires,
+            outputs,
+            cells: _,
+        } => solve_along(
+            sheet,
+            memory,
+            input,
+            output,
+            schedule,
+            inputs,
+            wires,
+            outputs,
+        ),
+    }
+}
+
+// The instant along a schedule, of buffers that passed 1 to 16, by the counts of the sheet: 17 to 19, or what the pass leaves, after
+// which no wire is unknown.
+fn solve_along(
+    sheet: &[u8],
+    memory: &mut [u8],
+    input: &[u8],
+    output: &mut [u8],
+    schedule: &[u8],
+    inputs: usize,
+    wires: usize,
+    outputs: usize,
+) -> Scheduled
+    requires { ⌜ Granted (now sheet) (now memory) (now input) (now output) inputs wires outputs ⌝ }
+    ensures { λ r. ⌜ Leaves (scheduledCall (now (sheet .entry)) (now (memory .entry)) (now (input .entry)) (now (output .entry))
+        (now (schedule .entry))) r (now (memory .exit)) (now (output .exit)) ⌝ }
+{
+    let from = 2 + inputs;
+    let to = from + wires;
+    let named = to + 1;
+    let first = named + outputs;
+    let types = &sheet[from..to];
+    let mut places = [0usize; 64];
+    let mut firsts = [0usize; 64];
+    starts::locate(sheet, types.len(), first, &mut places, &mut firsts);
+    match schedule::check_schedule(sheet, schedule, types.len(), &places, &firsts) {
+        Ordered::Refused { why, place } => Scheduled::Refused { why, place },
+        Ordered::Passed => {
+            let mut words = [0u32; 64];
+            let known = pass::pass(
+                sheet,
+                memory,
+                input,
+                types,
+                &places,
+                &firsts,
+                schedule,
+                &mut words,
+            );
+            store::store(sheet, memory, input, types, first, known, &words);
+            rounds::write_row(&sheet[named..first], &words, output);
+            Scheduled::Accepted
+        }
+    }
+}

@@ -1,0 +1,45 @@
+// The pass along a list of wires, each of which is worked out once. Rests on `expression` and on `rounds` for the set and the words.
+use expression::value;
+use wires::Wires;
+ghost use lib.ListN.{length};
+ghost use Rattle.rounds.specs.Running.{Holds};
+ghost use Rattle.instant.specs.Along.{Along, passedOf};
+
+// The pass along `list`: the wire at each position gets what its expression yields under the values so far.
+pub fn pass(
+    sheet: &[u8],
+    memory: &[u8],
+    input: &[u8],
+    types: &[u8],
+    places: &[usize],
+    firsts: &[usize],
+    list: &[u8],
+    words: &mut [u32],
+) -> Wires
+    requires { ⌜ Along (now sheet) (now memory) (now input) (now types) (now places) (now firsts) (now list) (now words) ⌝ }
+    ensures { λ r. ⌜ ((a : Along (now (sheet .entry)) (now (memory .entry)) (now (input .entry)) (now (types .entry))
+        (now (places .entry)) (now (firsts .entry)) (now (list .entry)) (now (words .entry)))
+        → Holds (length (now (types .entry))) (r .bits) (now (words .exit)) (passedOf a)) ⌝ }
+{
+    let mut known = Wires::none();
+    let mut p = 0;
+    while p < list.len() {
+        let w = list[p] as usize;
+        let v = value::value_expression(
+            sheet,
+            input,
+            memory,
+            known,
+            words,
+            16,
+            types[w],
+            places[w],
+            firsts[w],
+            false,
+        );
+        let worth = v.value;
+        known = rounds::put_value(worth, w, known, words);
+        p += 1;
+    }
+    known
+}

@@ -1,0 +1,2 @@
+-- What the proofs of the calls use.
+pub mod Answers

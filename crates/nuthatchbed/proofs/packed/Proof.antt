@@ -1,0 +1,24 @@
+-- `packed` meets its contract: a number is at most 20, so that the sum fits. Assumes nothing.
+use native.Mathlib.Omega.{arith}
+use borrow.Author.Needs.{needs}
+use Rattle.sheet.specs.Laws.Places.{numbers-few}
+use Rattle.nuthatchbed.proofs.packed.Statement.{statement}
+use Rattle.nuthatchbed.proofs.packed.Tie as tie
+
+number-requires : tie.Need-number-requires
+number-requires c κs = search needs
+
+mul-result : tie.Need-mul-result
+mul-result c = record { fits = omega (arith, c .number .ensures, numbers-few (c .before .args .why)) }
+
+cast-result : tie.Need-cast-result
+cast-result c = search needs
+
+add-result : tie.Need-add-result
+add-result c = record { fits = omega (arith, c .number .ensures, numbers-few (c .before .args .why), c .before .pre) }
+
+returns : tie.Need-returns
+returns c = search needs
+
+pub packed-spec : {M : Type 1} → statement M
+packed-spec = tie.close (tie.spec number-requires mul-result cast-result add-result returns)

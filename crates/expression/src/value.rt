@@ -3,6 +3,7 @@
 use crate::Valued;
 use kernel::Value;
 use sheet::Cell;
+use sheet::bodies;
 use sheet::data;
 use sheet::kinds;
 use sheet::memory;
@@ -14,20 +15,7 @@ ghost use Prim.Native.Nat.{_≤_, _<_};
 ghost use lib.ListN.{length, getD};
 ghost use Rattle.wires.specs.Sets.{member};
 ghost use Rattle.sheet.specs.Data.{typeOfByte};
-ghost use Rattle.sheet.specs.Readings.{bodyAt, Whole};
 ghost use Rattle.expression.specs.Places.{Placement, valueOfWord, valuedOf};
-
-// The number that the body at a kind byte holds, in one byte or in four; 0 where there is no body.
-pub fn body_at(sheet: &[u8], at: usize) -> u32
-    requires { ⌜ Whole (now sheet) at ⌝ }
-    ensures { λ r. ⌜ r ≡ bodyAt (now (sheet .entry)) at ⌝ }
-{
-    match kinds::body(sheet[at]) {
-        4 => numbers::word_at(sheet, at + 1),
-        1 => sheet[at + 1] as u32,
-        _ => 0,
-    }
-}
 
 // The value of a wire of the type, from the set of known wires and its word.
 fn value_wire(known: Wires, words: &[u32], asked: u8, wire: usize) -> Value
@@ -60,7 +48,7 @@ fn value_leaf(
         (known .bits) level asked at cell) → r ≡ valuedOf p fresh) ⌝ }
 {
     let kind = sheet[at];
-    let body = body_at(sheet, at);
+    let body = bodies::body_at(sheet, at);
     let next = at + 1 + kinds::body(kind);
     if kind < 2 {
         let datum = data::datum_of(asked, body);
@@ -367,7 +355,7 @@ fn value_pre(
 {
     let first = at + 1 + kinds::body(sheet[at]);
     let inner = cell + 1;
-    let constant = data::datum_of(asked, body_at(sheet, at));
+    let constant = data::datum_of(asked, bodies::body_at(sheet, at));
     let kept = memory::cell_at(memory, cell, asked);
     let datum = operations::held(fresh, constant, kept);
     let operand = skip::skip(sheet, first, inner);

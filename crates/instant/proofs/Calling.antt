@@ -1,5 +1,5 @@
 -- What the calls leave: refusals, and accepted instants from their finished values.
-use Prim.Native.Nat.{ℕ, _+_, _*_, _≤_, _<_}
+use Prim.Native.Nat.{ℕ, _*_, _≤_, _<_}
 use mathlib.Core.Path.{_≡_, refl, sym, ap, _∙_}
 use mathlib.Core.Bool.{Bool, true, false}
 use mathlib.Core.List.{List}
@@ -10,7 +10,6 @@ use Rattle.wires.specs.Sets.{member, tally, LowestMissing}
 use Rattle.wires.specs.Laws.{tally-beyond, tally-full, all-full}
 use Rattle.sheet.specs.Outcomes.{Outcome, refusal, result, followedBy}
 use Rattle.sheet.specs.Rows.{rowBytes}
-use Rattle.sheet.specs.Sheets.{Sheet}
 use Rattle.sheet.specs.Laws.Lowest.{lowest-is}
 use Rattle.sheet.specs.declared.Refusal.{Refusal}
 use Rattle.sheet.specs.declared.Refusal.the-variants.{StaysUnknown}
@@ -33,7 +32,7 @@ use Rattle.schedule.specs.Orders.{Located, orderedAnswer}
 use Rattle.schedule.specs.declared.Ordered.the-variants.{Refused as RefusedOrder, Passed as PassedOrder}
 use Rattle.rounds.specs.Running.{Held, unheld, held, Holds}
 use Rattle.rounds.specs.Outputs.{Below, wordsOf, output-words}
-use Rattle.instant.specs.Along.{wiresOf, Along, passedOf}
+use Rattle.instant.specs.Along.{wiresOf, Along}
 use Rattle.instant.specs.Settled.{Settled, storedOf}
 use Rattle.instant.specs.Leaves.{Leaves, Granted}
 use Rattle.given.specs.Answers.{givenAnswer}
@@ -149,7 +148,8 @@ module _ {s memory input output : List ℕ} {inputs wires outputs : ℕ} (l : La
         let place-is : placeOfUnknown (wireCount (given .sheet)) (givenFinished given) ≡ place =
         ap (λ (n : ℕ). placeOfUnknown n (givenFinished given)) (l .wired) ∙ sym (low .is) in
         let e : followedBy (givenOf s memory input output) inRounds ≡ refusal StaysUnknown place =
-        rw (l .passes) (demand2 given .refused place (omega (arith, l .wired, low .inside)) (low .unknown) ∙ ap (refusal StaysUnknown) place-is) in
+        rw (l .passes)
+        (demand2 given .refused place (omega (arith, l .wired, low .inside)) (low .unknown) ∙ ap (refusal StaysUnknown) place-is) in
         record { answers = rw e; stores = rw e; writes = rw e }
 
     pub rounds-accepted : {rounds : ℕ} {new row : List ℕ} → tally (member bits) 64 ≡ count → rounds ≡ givenRounds given

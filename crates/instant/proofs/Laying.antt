@@ -1,6 +1,6 @@
 -- Buffers that passed 1 to 16, by the parts of the sheet that the code takes: they run, and their outputs are wires.
 use Prim.Native.Nat.{ℕ, _+_, _-_, _*_, _≤_, _<_}
-use mathlib.Core.Path.{_≡_, refl, sym, ap, ap₂, _∙_}
+use mathlib.Core.Path.{_≡_, sym, ap, ap₂, _∙_}
 use mathlib.Core.List.{List}
 use native.Mathlib.Omega.{arith}
 use lib.ListN.{length, getD, take, drop}
@@ -11,7 +11,7 @@ use Rattle.kernel.specs.Calls.{Given, givenOf}
 use Rattle.kernel.specs.Laws.Given.{given-by}
 use Rattle.rounds.specs.Running.{Running}
 use Rattle.rounds.specs.Outputs.{Below}
-use Rattle.rounds.specs.Laws.Running.{Bytes, parts}
+use Rattle.rounds.specs.Laws.Running.{parts}
 use Rattle.instant.specs.Leaves.{Granted}
 
 -- the wires' type bytes, the outputs' bytes, and where the expressions begin

@@ -3,3 +3,4 @@ pub mod Passing
 pub mod Storing
 pub mod Laying
 pub mod Calling
+pub mod Agreeing

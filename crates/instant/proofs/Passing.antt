@@ -12,16 +12,15 @@ use lib.ListN.{length, getD, getElem?, take, drop, set, length-append, length-se
 use lib.Seq.{drop-cons, drop-length, getD-set-same, getD-set-other}
 use Rattle.wires.specs.Sets.{member}
 use Rattle.sheet.specs.Data.{ValueType}
-use Rattle.sheet.specs.Expressions.{Expression, constant, CellForm, cellForms, cellCount}
+use Rattle.sheet.specs.Expressions.{Expression, constant, cellForms, cellCount}
 use Rattle.sheet.specs.Sheets.{formsOf}
 use Rattle.sheet.specs.Laws.Readings.{forms-length, run-extent}
 use Rattle.sheet.specs.declared.Cell.{Cell}
 use Rattle.sheet.specs.declared.Datum.the-variants.{Boolean}
-use Rattle.sheet_walk.specs.Starts.{StartsAt}
 use Rattle.kernel.specs.Values.{Fits, unknown-fits}
 use Rattle.kernel.specs.Order.{valueAt, allUnknown}
 use Rattle.kernel.specs.Instant.{Environment, under, value}
-use Rattle.kernel.specs.Instants.{wireCount, round, valueOfWire}
+use Rattle.kernel.specs.Instants.{wireCount, valueOfWire}
 use Rattle.kernel.specs.Schedules.{passFrom, pass}
 use Rattle.kernel.specs.Laws.Order.{unknown-at}
 use Rattle.kernel.specs.Laws.Instants.{round-at}
@@ -34,7 +33,7 @@ use Rattle.expression.specs.Places.{CellsStand, Placement, valuedOf}
 use Rattle.expression.proofs.Views.{cells-split}
 use Rattle.rounds.specs.Running.{Running, Held, unheld, Holds, Put}
 use Rattle.rounds.proofs.Rounding.{at-or-else, put-length, put-other, put-held, running-stands}
-use Rattle.instant.specs.Along.{wiresOf, Along, passedOf}
+use Rattle.instant.specs.Along.{Along, passedOf}
 
 abbrev pub treeAt : List Expression → ℕ → Expression
 treeAt es w = getD es w (constant (Boolean false))

@@ -2,18 +2,18 @@
 use Prim.Native.Nat.{ℕ, suc, _+_, _*_, _≤_, _<_}
 use mathlib.Core.Path.{_≡_, refl, sym, ap, _∙_}
 use mathlib.Core.Bool.{false}
-use mathlib.Core.List.{List, [], _∷_, _++_, append-nil}
+use mathlib.Core.List.{List, [], _∷_, _++_}
 use native.Mathlib.Numerals.{add-one}
 use native.Mathlib.Omega.{arith}
-use lib.ListN.{length, getD, drop, length-append, drop-of-length-le}
-use lib.Seq.{sets, sets-eq, length-sets, drop-cons, drop-length}
+use lib.ListN.{length, getD, drop, length-append}
+use lib.Seq.{sets, length-sets, drop-cons, drop-length}
 use Rattle.sheet.specs.Expressions.{Expression, constant, cellForms, cellCount}
 use Rattle.sheet.specs.Sheets.{formsOf}
 use Rattle.sheet.specs.Memory.{memoryBytes}
 use Rattle.sheet.specs.Laws.Readings.{forms-length, expression-extent, run-extent}
 use Rattle.sheet.specs.Laws.Memory.{pairwise-length, memory-length}
 use Rattle.sheet.specs.declared.Datum.the-variants.{Boolean}
-use Rattle.sheet_walk.specs.Starts.{StartsAt}
+use Rattle.numbers.specs.Laws.{sets-all}
 use Rattle.sheet_walk.proofs.Locating as Locating
 use Rattle.kernel.specs.Instant.{Environment, under, stored}
 use Rattle.kernel.specs.Instants.{storedCells, nextMemory}
@@ -37,11 +37,6 @@ cells-length now (e ∷ es) k l =
     let size = length-append (cellForms e) (formsOf es) in
     let count = forms-length e in
     simp length-append (omega (arith, stored-length now false e k (omega arith), cells-length now es (k + cellCount e) (omega arith)))
-
-sets-all : (vs l : List ℕ) → length vs ≡ length l → sets l 0 vs ≡ vs
-sets-all vs l e =
-    let none : drop (0 + length vs) l ≡ [] = drop-of-length-le l {i = 0 + length vs} (omega arith) in
-    sets-eq vs l 0 (omega arith) ∙ rw none (append-nil vs)
 
 module _ {s start input types : List ℕ} {first bits : ℕ} {words : List ℕ} (f : Settled s start input types first bits words) where
   abbrev trees : List Expression

@@ -1,3 +1,4 @@
 pub mod Along
 pub mod Settled
 pub mod Leaves
+pub mod Agreement

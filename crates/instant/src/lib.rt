@@ -7,6 +7,7 @@ use schedule::Ordered;
 use sheet::Refusal;
 use sheet_walk::starts;
 
+pub mod agreement;
 pub mod pass;
 pub mod store;
 

@@ -6,8 +6,8 @@ use mathlib.Core.List.{List, [], _∷_, _++_, append-assoc, append-nil}
 use native.Mathlib.Omega.{arith}
 use native.Mathlib.Nat.{add-zero}
 use lib.Dec.{eqb}
-use lib.ListN.{length, getD, set, drop, length-append, drop-of-length-le}
-use lib.Seq.{sets, sets-eq}
+use lib.ListN.{length, getD, set, length-append}
+use lib.Seq.{sets}
 use Rattle.sheet.specs.Data.{typeOfByte}
 use Rattle.sheet.specs.Expressions.{Expression, CellForm, cellForms}
 use Rattle.sheet.specs.Kinds.{bodyOf, cellsOf, operandsOf, foundOf}
@@ -65,11 +65,6 @@ sets-append : (vs ws l : List ℕ) (i : ℕ) → sets l i (vs ++ ws) ≡ sets (s
 sets-append [] ws l i = rw add-zero
 sets-append (v ∷ vs) ws l i =
     let e : i + suc (length vs) ≡ suc i + length vs = omega arith in rw e (sets-append vs ws (set l i v) (suc i))
-
-pub sets-all : (vs l : List ℕ) → length vs ≡ length l → sets l 0 vs ≡ vs
-sets-all vs l e =
-    let none : drop (0 + length vs) l ≡ [] = drop-of-length-le l {i = 0 + length vs} (omega arith) in
-    sets-eq vs l 0 (omega arith) ∙ rw none (append-nil vs)
 
 -- where a pass has not ended it meets an expression, whose cell has room among `size` bytes, and then the rest
 pub record Meets (s : List ℕ) (at k size : ℕ) (bytes : List ℕ) : Type 0 where

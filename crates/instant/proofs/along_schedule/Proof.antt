@@ -4,10 +4,6 @@ use borrow.Author.Needs.{needs}
 use Rattle.instant.proofs.Calling.{granted, scheduled-refused}
 use Rattle.instant.proofs.along_schedule.Statement.{statement}
 use Rattle.instant.proofs.along_schedule.Tie as tie
-use Rattle.instant.proofs.along_schedule.Reads as reads
-use Rattle.instant.proofs.along_schedule.Lts as lts
-use Rattle.given.proofs.given_of.Reads as given-of-reads
-use Rattle.instant.proofs.solve_along.Reads as solve-along-reads
 
 given-of-requires : tie.Need-given-of-requires
 given-of-requires c κs = search needs
@@ -19,7 +15,8 @@ enum-known-inputs : tie.Need-enum-known-inputs
 enum-known-inputs c = search needs
 
 solve-along-requires : tie.Need-solve-along-requires
-solve-along-requires c κs = granted (sym (c .before .before .before .inputs .given .1) ∙ c .before .before .before .before .before .given-of .ensures)
+solve-along-requires c κs =
+    granted (sym (c .before .before .before .inputs .given .1) ∙ c .before .before .before .before .before .given-of .ensures)
 
 same-length : tie.Need-same-length
 same-length c = search needs

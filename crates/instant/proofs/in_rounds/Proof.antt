@@ -4,10 +4,6 @@ use borrow.Author.Needs.{needs}
 use Rattle.instant.proofs.Calling.{granted, rounds-refused}
 use Rattle.instant.proofs.in_rounds.Statement.{statement}
 use Rattle.instant.proofs.in_rounds.Tie as tie
-use Rattle.instant.proofs.in_rounds.Reads as reads
-use Rattle.instant.proofs.in_rounds.Lts as lts
-use Rattle.given.proofs.given_of.Reads as given-of-reads
-use Rattle.instant.proofs.solve_in_rounds.Reads as solve-in-rounds-reads
 
 given-of-requires : tie.Need-given-of-requires
 given-of-requires c κs = search needs
@@ -19,7 +15,8 @@ enum-known-inputs : tie.Need-enum-known-inputs
 enum-known-inputs c = search needs
 
 solve-in-rounds-requires : tie.Need-solve-in-rounds-requires
-solve-in-rounds-requires c κs = granted (sym (c .before .before .before .inputs .given .1) ∙ c .before .before .before .before .before .given-of .ensures)
+solve-in-rounds-requires c κs =
+    granted (sym (c .before .before .before .inputs .given .1) ∙ c .before .before .before .before .before .given-of .ensures)
 
 same-length : tie.Need-same-length
 same-length c = search needs

@@ -1,49 +1,61 @@
 -- `solve_along` meets its contract.
-use mathlib.Core.Path.{refl, sym, _∙_}
+use mathlib.Core.Path.{_≡_, refl, sym, _∙_}
 use native.Mathlib.Omega.{arith}
 use borrow.Author.Needs.{needs}
-use Rattle.kernel.specs.Schedules.{IsSchedule}
+use Rattle.kernel.specs.Schedules.{scheduleOf, IsSchedule}
+use Rattle.schedule.specs.Orders.{orderedAnswer}
 use Rattle.instant.specs.Along.{wiresOf}
 use Rattle.instant.proofs.Laying.{Laid, laid}
 use Rattle.instant.proofs.Calling.{given, HoldsFinished, settled, row-fits, Sited, located, along}
 use Rattle.instant.proofs.Calling.{order-refused, order-passed, pass-holds, scheduled-accepts}
 use Rattle.instant.proofs.solve_along.Statement.{statement}
 use Rattle.instant.proofs.solve_along.Tie as tie
-use Rattle.instant.proofs.solve_along.Reads as reads
-use Rattle.instant.proofs.solve_along.Lts as lts
-use Rattle.instant.proofs.pass.pass.Reads as pass-reads
-use Rattle.instant.proofs.store.store.Reads as store-reads
-use Rattle.rounds.proofs.write_row.Reads as write-row-reads
-use Rattle.schedule.proofs.check_schedule.Reads as check-schedule-reads
-use Rattle.sheet_walk.proofs.starts.locate.Reads as locate-reads
 
 -- the parts of the sheet, where the memory is known to hold bytes
-laid-of : (c : tie.After-slice-known) → Laid (c .before .before .args .sheet .now) (c .before .before .args .memory .now) (c .before .before .args .input .now) (c .before .before .args .output .now)
-    (c .before .before .args .inputs) (c .before .before .args .wires) (c .before .before .args .outputs)
+laid-of : (c : tie.After-slice-known) → let a = c .before .before .args in
+    Laid (a .sheet .now) (a .memory .now) (a .input .now) (a .output .now) (a .inputs) (a .wires) (a .outputs)
 laid-of c = laid (c .before .before .pre) (λ i. omega (arith, c .slice-known .given i))
 
+-- where these are known, from the walk to the wires; the walk, from the check of the list; the check, from the pass
+abbrev slices : tie.After-locate → tie.After-slice-known
+slices c = c .before .before .before .before .before .before .before
+
+abbrev walk : tie.After-check-schedule → tie.After-locate
+walk c = c .before .before .before .before .before
+
+abbrev order : tie.After-pass → tie.After-enum-told
+order c = c .before .before .before .before .before
+
 -- the wires are located
-sited-of : (c : tie.After-locate) → Sited (laid-of (c .before .before .before .before .before .before .before)) (c .locate .last .1 .1 .1 .0) (c .locate .last .1 .1 .1 .1 .0)
+sited-of : (c : tie.After-locate) → Sited (laid-of (slices c)) (c .locate .last .1 .1 .1 .0) (c .locate .last .1 .1 .1 .1 .0)
 sited-of c =
-    let l = laid-of (c .before .before .before .before .before .before .before) in
+    let l = laid-of (slices c) in
     record {
       starts = c .locate .ensures (wiresOf (l .running));
       inPlaces = omega (arith, l .running .few, c .locate .kept .1 .1 .1 .0);
       inFirsts = omega (arith, l .running .few, c .locate .kept .1 .1 .1 .1 .0);
     }
 
--- the list passed its checks
-schedule-of : (c : tie.After-enum-told) → IsSchedule (given (laid-of (c .before .before .before .before .before .before .before .before .before .before .before .before .before .before)) .sheet) (c .before .before .before .before .before .before .before .before .before .before .before .before .before .before .before .before .args .schedule .now)
-schedule-of c =
-    let l = laid-of (c .before .before .before .before .before .before .before .before .before .before .before .before .before .before) in
-    order-passed l (sym (c .enum-told .given .1) ∙ c .before .before .check-schedule .ensures (located l (sited-of (c .before .before .before .before .before .before .before))) (given l .sheet) refl)
+-- what the check of the list answers
+ordered : (c : tie.After-check-schedule) → let l = laid-of (slices (walk c)) in
+    c .check-schedule .result ≡ orderedAnswer (scheduleOf (given l .sheet) (slices (walk c) .before .before .args .schedule .now))
+ordered c =
+    let l = laid-of (slices (walk c)) in
+    c .check-schedule .ensures (located l (sited-of (walk c))) (given l .sheet) refl
+
+-- the list is a schedule
+schedule-of : (c : tie.After-enum-told) → let at = slices (walk (c .before .before)) in
+    IsSchedule (given (laid-of at) .sheet) (at .before .before .args .schedule .now)
+schedule-of c = order-passed (laid-of (slices (walk (c .before .before)))) (sym (c .enum-told .given .1) ∙ ordered (c .before .before))
 
 -- the pass came to the finished values
-holds-of : (c : tie.After-pass) → HoldsFinished (laid-of (c .before .before .before .before .before .before .before .before .before .before .before .before .before .before .before .before .before .before .before)) (c .pass .result .bits) (c .pass .last .1 .1 .1 .1 .1 .1 .1 .0)
+holds-of : (c : tie.After-pass) → let l = laid-of (slices (walk (order c .before .before))) in
+    HoldsFinished l (c .pass .result .bits) (c .pass .last .1 .1 .1 .1 .1 .1 .1 .0)
 holds-of c =
-    let l = laid-of (c .before .before .before .before .before .before .before .before .before .before .before .before .before .before .before .before .before .before .before) in
-    let schedule = schedule-of (c .before .before .before .before .before) in
-    pass-holds l schedule (c .pass .ensures (along l (sited-of (c .before .before .before .before .before .before .before .before .before .before .before .before)) schedule (l .running .few)))
+    let at = walk (order c .before .before) in
+    let l = laid-of (slices at) in
+    let schedule = schedule-of (order c) in
+    pass-holds l schedule (c .pass .ensures (along l (sited-of at) schedule (l .running .few)))
 
 add-from : tie.Need-add-from
 add-from c = omega (arith, laid-of (c .before .before .before) .within)
@@ -73,7 +85,8 @@ slice-aggregate-locate-2 : tie.Need-slice-aggregate-locate-2
 slice-aggregate-locate-2 c = search needs
 
 locate-requires : tie.Need-locate-requires
-locate-requires c κs = let l = laid-of (c .before .before .before .before .before .before) in (wiresOf (l .running), l .running .few, l .running .few)
+locate-requires c κs =
+    let l = laid-of (c .before .before .before .before .before .before) in (wiresOf (l .running), l .running .few, l .running .few)
 
 slice-aggregate-check-schedule : tie.Need-slice-aggregate-check-schedule
 slice-aggregate-check-schedule c = search needs
@@ -82,7 +95,10 @@ slice-aggregate-check-schedule-2 : tie.Need-slice-aggregate-check-schedule-2
 slice-aggregate-check-schedule-2 c = search needs
 
 check-schedule-requires : tie.Need-check-schedule-requires
-check-schedule-requires c κs = let l = laid-of (c .before .before .before .before .before .before .before .before .before .before .before) in (l .running .few, located l (sited-of (c .before .before .before .before)))
+check-schedule-requires c κs =
+    let at = c .before .before .before .before in
+    let l = laid-of (slices at) in
+    (l .running .few, located l (sited-of at))
 
 enum-known-why : tie.Need-enum-known-why
 enum-known-why c = search needs
@@ -100,13 +116,18 @@ slice-aggregate-pass-3 : tie.Need-slice-aggregate-pass-3
 slice-aggregate-pass-3 c = search needs
 
 pass-requires : tie.Need-pass-requires
-pass-requires c κs = let l = laid-of (c .before .before .before .before .before .before .before .before .before .before .before .before .before .before .before .before .before .before) in along l (sited-of (c .before .before .before .before .before .before .before .before .before .before .before)) (schedule-of (c .before .before .before .before)) (l .running .few)
+pass-requires c κs =
+    let at = c .before .before .before .before .before .before .before .before .before .before .before in
+    let l = laid-of (slices at) in
+    along l (sited-of at) (schedule-of (c .before .before .before .before)) (l .running .few)
 
 slice-aggregate-store : tie.Need-slice-aggregate-store
 slice-aggregate-store c = search needs
 
 store-requires : tie.Need-store-requires
-store-requires c κs = settled (laid-of (c .before .before .before .before .before .before .before .before .before .before .before .before .before .before .before .before .before .before .before .before .before .before)) (holds-of (c .before .before .before))
+store-requires c κs =
+    let made = c .before .before .before in
+    settled (laid-of (slices (walk (order made .before .before)))) (holds-of made)
 
 sub-write-row : tie.Need-sub-write-row
 sub-write-row c = search needs
@@ -115,19 +136,22 @@ part-write-row-start : tie.Need-part-write-row-start
 part-write-row-start c = search needs
 
 part-write-row-end : tie.Need-part-write-row-end
-part-write-row-end c = omega (arith, laid-of (c .before .before .before .before .before .before .before .before .before .before .before .before .before .before .before .before .before .before .before .before .before .before .before .before .before) .within)
+part-write-row-end c =
+    let made = c .before .before .before .before .before .before in
+    omega (arith, laid-of (slices (walk (order made .before .before))) .within)
 
 slice-aggregate-write-row : tie.Need-slice-aggregate-write-row
 slice-aggregate-write-row c = search needs
 
 write-row-requires : tie.Need-write-row-requires
-write-row-requires c κs = row-fits (laid-of (c .before .before .before .before .before .before .before .before .before .before .before .before .before .before .before .before .before .before .before .before .before .before .before .before .before .before .before .before)) (holds-of (c .before .before .before .before .before .before .before .before .before))
+write-row-requires c κs =
+    let made = c .before .before .before .before .before .before .before .before .before in
+    row-fits (laid-of (slices (walk (order made .before .before)))) (holds-of made)
 
 returns : tie.Need-returns
 returns c =
-    let l = laid-of (c .before .before .before .before .before .before .before .before .before .before .before .before .before .before .before) in
-    order-refused l (c .before .before .before .before .before .before .before .before .before .before .before .before .before .before .before .before .before .args .schedule .now)
-    (sym (c .before .why .given .1) ∙ c .before .before .before .check-schedule .ensures (located l (sited-of (c .before .before .before .before .before .before .before .before))) (given l .sheet) refl)
+    let at = slices (walk (c .before .before .before)) in
+    order-refused (laid-of at) (at .before .before .args .schedule .now) (sym (c .before .why .given .1) ∙ ordered (c .before .before .before))
 
 same-length : tie.Need-same-length
 same-length c = search needs
@@ -137,9 +161,11 @@ same-length-2 c = search needs
 
 returns-2 : tie.Need-returns-2
 returns-2 c =
-    let l = laid-of (c .before .before .before .before .before .before .before .before .before .before .before .before .before .before .before .before .before .before .before .before .before .before .before .before .before .before .before .before .before .before .before) in
-    let h = holds-of (c .before .before .before .before .before .before .before .before .before .before .before .before) in
-    scheduled-accepts l (schedule-of (c .before .before .before .before .before .before .before .before .before .before .before .before .before .before .before .before .before)) h (c .before .before .before .before .before .before .before .before .store .ensures (settled l h)) (c .before .before .write-row .ensures)
+    let made = c .before .before .before .before .before .before .before .before .before .before .before .before in
+    let stores = c .before .before .before .before .before .before .before .before .store .ensures in
+    let l = laid-of (slices (walk (order made .before .before))) in
+    let h = holds-of made in
+    scheduled-accepts l (schedule-of (order made)) h (stores (settled l h)) (c .before .before .write-row .ensures)
 
 pub solve-along-spec : {M : Type 1} → statement M
 solve-along-spec =

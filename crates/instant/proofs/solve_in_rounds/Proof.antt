@@ -6,18 +6,15 @@ use Rattle.instant.proofs.Laying.{Laid, laid}
 use Rattle.instant.proofs.Calling.{settled, row-fits, unknown-refused, rounds-accepted}
 use Rattle.instant.proofs.solve_in_rounds.Statement.{statement}
 use Rattle.instant.proofs.solve_in_rounds.Tie as tie
-use Rattle.instant.proofs.solve_in_rounds.Reads as reads
-use Rattle.instant.proofs.solve_in_rounds.Lts as lts
-use Rattle.instant.proofs.store.store.Reads as store-reads
-use Rattle.rounds.proofs.finish.Reads as finish-reads
-use Rattle.rounds.proofs.write_row.Reads as write-row-reads
-use Rattle.wires.proofs.Wires.count.Reads as count-reads
-use Rattle.wires.proofs.Wires.lowest_missing.Reads as lowest-missing-reads
 
 -- the parts of the sheet, where the memory is known to hold bytes
-laid-of : (c : tie.After-slice-known) → Laid (c .before .before .args .sheet .now) (c .before .before .args .memory .now) (c .before .before .args .input .now) (c .before .before .args .output .now)
-    (c .before .before .args .inputs) (c .before .before .args .wires) (c .before .before .args .outputs)
+laid-of : (c : tie.After-slice-known) → let a = c .before .before .args in
+    Laid (a .sheet .now) (a .memory .now) (a .input .now) (a .output .now) (a .inputs) (a .wires) (a .outputs)
 laid-of c = laid (c .before .before .pre) (λ i. omega (arith, c .slice-known .given i))
+
+-- where these are known, from the rounds
+abbrev slices : tie.After-finish → tie.After-slice-known
+slices c = c .before .before .before .before .before .before
 
 add-from : tie.Need-add-from
 add-from c = omega (arith, laid-of (c .before .before) .within)
@@ -63,14 +60,19 @@ same-length c = search needs
 
 returns : tie.Need-returns
 returns c =
-    let l = laid-of (c .before .before .before .before .before .before .before .before .before .before .before) in
-    unknown-refused l (c .before .before .before .before .before .finish .ensures (l .running) .0) (λ e. c .before .if1 .taken (c .before .before .count .ensures ∙ e)) (c .lowest-missing .ensures)
+    let solved = c .before .before .before .before .before in
+    let l = laid-of (slices solved) in
+    unknown-refused l (solved .finish .ensures (l .running) .0) (λ e. c .before .if1 .taken (c .before .before .count .ensures ∙ e))
+    (c .lowest-missing .ensures)
 
 slice-aggregate-store : tie.Need-slice-aggregate-store
 slice-aggregate-store c = search needs
 
 store-requires : tie.Need-store-requires
-store-requires c κs = let l = laid-of (c .before .before .before .before .before .before .before .before .before .before .before .before) in settled l (c .before .before .before .before .before .before .finish .ensures (l .running) .0)
+store-requires c κs =
+    let solved = c .before .before .before .before .before .before in
+    let l = laid-of (slices solved) in
+    settled l (solved .finish .ensures (l .running) .0)
 
 sub-write-row : tie.Need-sub-write-row
 sub-write-row c = search needs
@@ -79,13 +81,17 @@ part-write-row-start : tie.Need-part-write-row-start
 part-write-row-start c = search needs
 
 part-write-row-end : tie.Need-part-write-row-end
-part-write-row-end c = omega (arith, laid-of (c .before .before .before .before .before .before .before .before .before .before .before .before .before .before .before) .within)
+part-write-row-end c =
+    omega (arith, laid-of (slices (c .before .before .before .before .before .before .before .before .before)) .within)
 
 slice-aggregate-write-row : tie.Need-slice-aggregate-write-row
 slice-aggregate-write-row c = search needs
 
 write-row-requires : tie.Need-write-row-requires
-write-row-requires c κs = let l = laid-of (c .before .before .before .before .before .before .before .before .before .before .before .before .before .before .before .before .before .before) in row-fits l (c .before .before .before .before .before .before .before .before .before .before .before .before .finish .ensures (l .running) .0)
+write-row-requires c κs =
+    let solved = c .before .before .before .before .before .before .before .before .before .before .before .before in
+    let l = laid-of (slices solved) in
+    row-fits l (solved .finish .ensures (l .running) .0)
 
 same-length-2 : tie.Need-same-length-2
 same-length-2 c = search needs
@@ -95,10 +101,12 @@ same-length-3 c = search needs
 
 returns-2 : tie.Need-returns-2
 returns-2 c =
-    let l = laid-of (c .before .before .before .before .before .before .before .before .before .before .before .before .before .before .before .before .before .before .before .before .before) in
-    let h = c .before .before .before .before .before .before .before .before .before .before .before .before .before .before .before .finish .ensures (l .running) .0 in
-    rounds-accepted l h (sym (c .before .before .before .before .before .before .before .before .before .before .before .before .count .ensures) ∙ c .before .before .before .before .before .before .before .before .before .before .before .if1 .left)
-    (c .before .before .before .before .before .before .before .before .before .before .before .before .before .before .before .finish .ensures (l .running) .1) (c .before .before .before .before .before .before .before .before .store .ensures (settled l h)) (c .before .before .write-row .ensures)
+    let left = c .before .before .before .before .before .before .before .before .before .before .before in
+    let solved = left .before .before .before .before in
+    let l = laid-of (slices solved) in
+    let h = solved .finish .ensures (l .running) .0 in
+    rounds-accepted l h (sym (left .before .count .ensures) ∙ left .if1 .left) (solved .finish .ensures (l .running) .1)
+    (c .before .before .before .before .before .before .before .before .store .ensures (settled l h)) (c .before .before .write-row .ensures)
 
 pub solve-in-rounds-spec : {M : Type 1} → statement M
 solve-in-rounds-spec =

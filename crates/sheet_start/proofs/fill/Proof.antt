@@ -5,7 +5,8 @@ use mathlib.Core.List.{List}
 use native.Mathlib.Omega.{arith}
 use lib.ListN.{length}
 use Rattle.sheet_start.specs.Scans.{Scan}
-use Rattle.sheet_start.proofs.Scanning.{sets-all, scan-end, Meets, meets, Left, fill-step}
+use Rattle.numbers.specs.Laws.{sets-all}
+use Rattle.sheet_start.proofs.Scanning.{scan-end, Meets, meets, Left, fill-step}
 use Rattle.sheet_start.proofs.fill.Statement.{statement}
 use Rattle.sheet_start.proofs.fill.Tie as tie
 

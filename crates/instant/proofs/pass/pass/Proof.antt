@@ -8,11 +8,6 @@ use Rattle.instant.specs.Along.{Along}
 use Rattle.instant.proofs.Passing.{Sofar, unpassed, placed, further, passed}
 use Rattle.instant.proofs.pass.pass.Statement.{statement}
 use Rattle.instant.proofs.pass.pass.Tie as tie
-use Rattle.instant.proofs.pass.pass.Reads as reads
-use Rattle.instant.proofs.pass.pass.Lts as lts
-use Rattle.expression.proofs.value.value_expression.Reads as value-expression-reads
-use Rattle.rounds.proofs.put_value.Reads as put-value-reads
-use Rattle.wires.proofs.Wires.none.Reads as none-reads
 
 abbrev Inv-loop : tie.InvT-loop
 Inv-loop sheet memory input types places firsts list words₀ known₀ p₀ words known p =
@@ -21,6 +16,10 @@ Inv-loop sheet memory input types places firsts list words₀ known₀ p₀ word
 
 abbrev μ-loop : tie.MeasureT-loop
 μ-loop sheet memory input types places firsts list words₀ known₀ p₀ words known p = length list - p
+
+-- where the function begins, from a turn of the loop
+abbrev start : tie.In-loop Inv-loop μ-loop → tie.Start Inv-loop μ-loop
+start c = c .before .before .before .before .before .before .before .before .before .before .before
 
 none-requires : tie.Need-none-requires Inv-loop μ-loop
 none-requires c κs = tt
@@ -35,44 +34,57 @@ cast-w : tie.Need-cast-w Inv-loop μ-loop
 cast-w c = omega (arith, c .shared-slice-known8 .given (c .before .before .loop .p))
 
 shared-slice-read-value-expression : tie.Need-shared-slice-read-value-expression Inv-loop μ-loop
-shared-slice-read-value-expression c = c .before .before .before .before .before .before .before .before .before .before .before .before .before .before .pre .wires (c .before .before .before .before .loop .p) (c .before .before .before .loop-test .taken)
+shared-slice-read-value-expression c = let t = c .before .before .before in start t .pre .wires (t .before .loop .p) (t .loop-test .taken)
 
 mul-value-expression : tie.Need-mul-value-expression Inv-loop μ-loop
 mul-value-expression c = omega (arith, c .before .before .shared-slice-known8 .given (c .before .before .before .before .loop .p))
 
 shared-slice-read-value-expression-2 :
     tie.Need-shared-slice-read-value-expression-2 Inv-loop μ-loop
-shared-slice-read-value-expression-2 c = let a = c .before .before .before .before .before .before .before .before .before .before .before .before .before .before .before .pre in omega (arith, a .inPlaces, a .wires (c .before .before .before .before .before .loop .p) (c .before .before .before .before .loop-test .taken))
+shared-slice-read-value-expression-2 c =
+    let t = c .before .before .before .before in
+    omega (arith, start t .pre .inPlaces, start t .pre .wires (t .before .loop .p) (t .loop-test .taken))
 
 mul-value-expression-2 : tie.Need-mul-value-expression-2 Inv-loop μ-loop
-mul-value-expression-2 c = omega (arith, c .before .before .before .shared-slice-known8 .given (c .before .before .before .before .before .loop .p))
+mul-value-expression-2 c =
+    omega (arith, c .before .before .before .shared-slice-known8 .given (c .before .before .before .before .before .loop .p))
 
 shared-slice-read-value-expression-3 :
     tie.Need-shared-slice-read-value-expression-3 Inv-loop μ-loop
-shared-slice-read-value-expression-3 c = let a = c .before .before .before .before .before .before .before .before .before .before .before .before .before .before .before .before .pre in omega (arith, a .inFirsts, a .wires (c .before .before .before .before .before .before .loop .p) (c .before .before .before .before .before .loop-test .taken))
+shared-slice-read-value-expression-3 c =
+    let t = c .before .before .before .before .before in
+    omega (arith, start t .pre .inFirsts, start t .pre .wires (t .before .loop .p) (t .loop-test .taken))
 
 value-expression-requires : tie.Need-value-expression-requires Inv-loop μ-loop
-value-expression-requires c κs = let a = c .before .before .before .before .before .before .before .before .before .before .before .before .before .before .before .before .pre in placed a (c .before .before .before .before .before .before .loop .inv .2 a) (c .before .before .before .before .before .loop-test .taken)
+value-expression-requires c κs =
+    let t = c .before .before .before .before .before in
+    let a = start t .pre in
+    placed a (t .before .loop .inv .2 a) (t .loop-test .taken)
 
 put-value-requires : tie.Need-put-value-requires Inv-loop μ-loop
 put-value-requires c κs =
-    let a = c .before .before .before .before .before .before .before .before .before .before .before .before .before .before .before .before .before .before .pre in
-    let inside = a .wires (c .before .before .before .before .before .before .before .before .loop .p) (c .before .before .before .before .before .before .before .loop-test .taken) in
-    (omega (arith, inside, a .running .few), omega (arith, inside, c .before .before .before .before .before .before .before .before .loop .inv .2 a .holds .room))
+    let t = c .before .before .before .before .before .before .before in
+    let a = start t .pre in
+    let inside = a .wires (t .before .loop .p) (t .loop-test .taken) in
+    (omega (arith, inside, a .running .few), omega (arith, inside, t .before .loop .inv .2 a .holds .room))
 
 add-p : tie.Need-add-p Inv-loop μ-loop
-add-p c = omega (arith, c .before .before .before .before .before .before .before .before .before .before .loop-test .taken, c .before .before .before .before .before .before .before .before .before .before .before .before .before .before .before .before .before .before .before .before .before .good .1 .1 .1 .1 .1 .1 .0)
+add-p c =
+    let t = c .before .before .before .before .before .before .before .before .before .before in
+    omega (arith, t .loop-test .taken, start t .good .1 .1 .1 .1 .1 .1 .0)
 
 loop-less : tie.Need-loop-less Inv-loop μ-loop
 loop-less c = omega arith
 
 loop-again : tie.Need-loop-again Inv-loop μ-loop
 loop-again c =
-    let l = c .before .before .before .before .before .before .before .before .before .before .before .loop in (
+    let t = c .before .before .before .before .before .before .before .before .before .before in
+    let i = t .before .loop .inv in
+    let v = c .before .before .before .before .value-expression in (
       omega arith,
-      put-length (c .before .before .put-value .ensures) ∙ l .inv .1,
-      λ a. further a (l .inv .2 a) (c .before .before .before .before .before .before .before .before .before .before .loop-test .taken) (c .before .before .before .before .value-expression .result)
-          (c .before .before .before .before .value-expression .ensures (placed a (l .inv .2 a) (c .before .before .before .before .before .before .before .before .before .before .loop-test .taken))) (c .before .before .put-value .ensures),
+      put-length (c .before .before .put-value .ensures) ∙ i .1,
+      λ a. further a (i .2 a) (t .loop-test .taken) (v .result) (v .ensures (placed a (i .2 a) (t .loop-test .taken)))
+          (c .before .before .put-value .ensures),
     )
 
 same-length : tie.Need-same-length Inv-loop μ-loop

@@ -7,9 +7,6 @@ use Rattle.instant.specs.Settled.{Settled}
 use Rattle.instant.proofs.Storing.{Stored, unstored, ready, one-stored, all-stored}
 use Rattle.instant.proofs.store.store.Statement.{statement}
 use Rattle.instant.proofs.store.store.Tie as tie
-use Rattle.instant.proofs.store.store.Reads as reads
-use Rattle.instant.proofs.store.store.Lts as lts
-use Rattle.storing.proofs.advance.advance_expression.Reads as advance-expression-reads
 
 abbrev Inv-loop : tie.InvT-loop
 Inv-loop sheet memory₀ input types first known words at₀ cell₀ w₀ memory at cell w =
@@ -27,7 +24,9 @@ shared-slice-read-advance-expression :
 shared-slice-read-advance-expression c = omega arith
 
 advance-expression-requires : tie.Need-advance-expression-requires Inv-loop μ-loop
-advance-expression-requires c κs = let f = c .before .before .before .before .before .before .before .before .before .pre in ready f (c .before .before .before .loop .inv .2 f) (c .before .before .loop-test .taken)
+advance-expression-requires c κs =
+    let f = c .before .before .before .before .before .before .before .before .before .pre in
+    ready f (c .before .before .before .loop .inv .2 f) (c .before .before .loop-test .taken)
 
 add-w : tie.Need-add-w Inv-loop μ-loop
 add-w c = omega arith
@@ -37,12 +36,12 @@ loop-less c = omega arith
 
 loop-again : tie.Need-loop-again Inv-loop μ-loop
 loop-again c =
-    let l = c .before .before .before .before .before .before .loop in (
+    let l = c .before .before .before .before .before .before .loop in
+    let more = c .before .before .before .before .before .loop-test .taken in
+    let v = c .before .before .advance-expression in (
       omega arith,
-      c .before .before .advance-expression .kept .1 .1 .0 ∙ l .inv .1,
-      λ f. let h = l .inv .2 f in
-          one-stored f h (c .before .before .before .before .before .loop-test .taken) (c .before .before .advance-expression .result)
-          (c .before .before .advance-expression .ensures (ready f h (c .before .before .before .before .before .loop-test .taken))),
+      v .kept .1 .1 .0 ∙ l .inv .1,
+      λ f. one-stored f (l .inv .2 f) more (v .result) (v .ensures (ready f (l .inv .2 f) more)),
     )
 
 same-length : tie.Need-same-length Inv-loop μ-loop

@@ -1,0 +1,103 @@
+-- `both` meets its contract.
+use borrow.Author.Needs.{needs}
+use Rattle.instant.proofs.Agreeing.{rounds-never-refused, schedule-never-refused, agreed}
+use Rattle.instant.proofs.agreement.both.Statement.{statement}
+use Rattle.instant.proofs.agreement.both.Tie as tie
+
+-- the call in rounds, from the other
+abbrev in-turn : tie.After-along-schedule → tie.After-in-rounds
+in-turn c = c .before .before .before .before .before .before .before
+
+in-rounds-requires : tie.Need-in-rounds-requires
+in-rounds-requires c κs = search needs
+
+along-schedule-requires : tie.Need-along-schedule-requires
+along-schedule-requires c κs = search needs
+
+enum-told : tie.Need-enum-told
+enum-told c = search needs
+
+enum-told-2 : tie.Need-enum-told-2
+enum-told-2 c = search needs
+
+same-length : tie.Need-same-length
+same-length c = search needs
+
+same-length-2 : tie.Need-same-length-2
+same-length-2 c = search needs
+
+same-length-3 : tie.Need-same-length-3
+same-length-3 c = search needs
+
+same-length-4 : tie.Need-same-length-4
+same-length-4 c = search needs
+
+returns : tie.Need-returns
+returns c =
+    λ g. rounds-never-refused g (in-turn (c .before .before .before .before .before .before) .in-rounds .ensures) (c .enum-told2 .given .1)
+
+enum-told-3 : tie.Need-enum-told-3
+enum-told-3 c = search needs
+
+enum-told-4 : tie.Need-enum-told-4
+enum-told-4 c = search needs
+
+same-length-5 : tie.Need-same-length-5
+same-length-5 c = search needs
+
+same-length-6 : tie.Need-same-length-6
+same-length-6 c = search needs
+
+same-length-7 : tie.Need-same-length-7
+same-length-7 c = search needs
+
+same-length-8 : tie.Need-same-length-8
+same-length-8 c = search needs
+
+returns-2 : tie.Need-returns-2
+returns-2 c =
+    let along = c .before .before .before .before .before .before .before .before in
+    λ g. schedule-never-refused g (in-turn along .in-rounds .ensures) (along .along-schedule .ensures) (c .enum-told4 .given .1)
+
+same-length-9 : tie.Need-same-length-9
+same-length-9 c = search needs
+
+same-length-10 : tie.Need-same-length-10
+same-length-10 c = search needs
+
+same-length-11 : tie.Need-same-length-11
+same-length-11 c = search needs
+
+same-length-12 : tie.Need-same-length-12
+same-length-12 c = search needs
+
+returns-3 : tie.Need-returns-3
+returns-3 c =
+    let along = c .before .before .before .before .before .before .before .before in
+    λ g. agreed g (in-turn along .in-rounds .ensures) (along .along-schedule .ensures)
+
+pub both-spec : {M : Type 1} → statement M
+both-spec =
+    tie.close
+    (tie.spec
+    in-rounds-requires
+    along-schedule-requires
+    enum-told
+    enum-told-2
+    same-length
+    same-length-2
+    same-length-3
+    same-length-4
+    returns
+    enum-told-3
+    enum-told-4
+    same-length-5
+    same-length-6
+    same-length-7
+    same-length-8
+    returns-2
+    same-length-9
+    same-length-10
+    same-length-11
+    same-length-12
+    returns-3)

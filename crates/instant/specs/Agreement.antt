@@ -1,0 +1,29 @@
+-- What demand 3 asks of the two calls side by side, and what it promises of them.
+use Prim.Native.Nat.{ℕ}
+use mathlib.Core.Path.{_≡_}
+use mathlib.Core.Bool.{Bool, true}
+use mathlib.Core.List.{List}
+use Rattle.sheet.specs.Outcomes.{result}
+use Rattle.sheet.specs.Memory.{memoryBytes}
+use Rattle.sheet.specs.Rows.{rowBytes}
+use Rattle.kernel.specs.Instants.{nextMemory, outputRow}
+use Rattle.kernel.specs.Schedules.{IsSchedule}
+use Rattle.kernel.specs.Calls.{Given, givenOf}
+use Rattle.kernel.specs.Laws.Demands.{givenFinished}
+
+-- two copies of one memory and two output rows that pass 1 to 16, and a list as demand 3 has it
+pub record BothGiven (s memory input output copy other list : List ℕ) : Type 0 where
+  pub given : Given
+  pub second : Given
+  pub copied : copy ≡ memory
+  pub passes : givenOf s memory input output ≡ result given
+  pub otherPasses : givenOf s copy input other ≡ result second
+  pub schedule : IsSchedule (given .sheet) list
+
+-- both are accepted, and leave the bytes that the finished values set
+pub record Agreed (given : Given) (accepted : Bool) (memory output copy other : List ℕ) : Type 0 where
+  pub both : accepted ≡ true
+  pub memories : copy ≡ memory
+  pub outputs : other ≡ output
+  pub stores : memory ≡ memoryBytes (nextMemory (given .sheet) (given .inputs) (given .memory) (givenFinished given))
+  pub writes : output ≡ rowBytes (outputRow (given .sheet) (givenFinished given))

@@ -1,0 +1,29 @@
+// The two instants side by side, on copies of one memory: demand 3 of the order, of the calls. Rests on their contracts.
+use kernel::InRounds;
+use kernel::Scheduled;
+ghost use Rattle.instant.specs.Agreement.{BothGiven, Agreed};
+
+// Whether the instant in rounds, on `memory` and `output`, and the instant along a schedule, on `copy` and `other`, are both accepted.
+pub fn both(
+    sheet: &[u8],
+    input: &[u8],
+    memory: &mut [u8],
+    output: &mut [u8],
+    copy: &mut [u8],
+    other: &mut [u8],
+    schedule: &[u8],
+) -> bool
+    ensures { λ r. ⌜ ((g : BothGiven (now (sheet .entry)) (now (memory .entry)) (now (input .entry)) (now (output .entry))
+        (now (copy .entry)) (now (other .entry)) (now (schedule .entry)))
+        → Agreed (g .given) r (now (memory .exit)) (now (output .exit)) (now (copy .exit)) (now (other .exit))) ⌝ }
+{
+    let in_turn = crate::in_rounds(sheet, memory, input, output);
+    let along = crate::along_schedule(sheet, copy, input, other, schedule);
+    let InRounds::Accepted { rounds: _ } = in_turn else {
+        return false;
+    };
+    let Scheduled::Accepted = along else {
+        return false;
+    };
+    true
+}

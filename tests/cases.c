@@ -2,10 +2,10 @@
  * the limits that are only run, every refusal with its place, and readings that easily go wrong.
  *
  * Usage: cases
- * With the library:
- *   cc -std=c11 -O2 -Wall -Wextra -Werror cases.c libnuthatchbed.a -o cases
+ * With the library, from the top of the repository:
+ *   cc -std=c11 -O2 -Wall -Wextra -Werror -Iinclude tests/cases.c target/staticlib/libnuthatchbed.a -o target/cases
  * With the reference in its place:
- *   cc -std=c11 -O2 -Wall -Wextra -Werror -DSELF_TEST cases.c reference.c -o cases
+ *   cc -std=c11 -O2 -Wall -Wextra -Werror -DSELF_TEST tests/cases.c tests/reference.c -o target/cases
  */
 #include "library.h"
 

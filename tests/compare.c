@@ -2,10 +2,11 @@
  * schedules: the same answer and the same bytes in every buffer, and demand 3 directly.
  *
  * Usage: compare [CASES] [SEED]
- * With the library:
- *   cc -std=c11 -O2 -Wall -Wextra -Werror compare.c reference.c libnuthatchbed.a -o compare
+ * With the library, from the top of the repository:
+ *   cc -std=c11 -O2 -Wall -Wextra -Werror -Iinclude tests/compare.c tests/reference.c \
+ *      target/staticlib/libnuthatchbed.a -o target/compare
  * With the reference in its place:
- *   cc -std=c11 -O2 -Wall -Wextra -Werror -DSELF_TEST compare.c reference.c -o compare
+ *   cc -std=c11 -O2 -Wall -Wextra -Werror -DSELF_TEST tests/compare.c tests/reference.c -o target/compare
  * Either may also be built with -fsanitize=address,undefined.
  */
 #include "library.h"

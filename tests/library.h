@@ -2,9 +2,9 @@
  * so that the tests can try themselves before there is a library.
  *
  * Usage: included by the tests; with the library
- *   cc -std=c11 -O2 -Wall -Wextra -Werror test.c libnuthatchbed.a -o test
+ *   cc -std=c11 -O2 -Wall -Wextra -Werror -Iinclude tests/cases.c target/staticlib/libnuthatchbed.a
  * and without it
- *   cc -std=c11 -O2 -Wall -Wextra -Werror -DSELF_TEST test.c reference.c -o test
+ *   cc -std=c11 -O2 -Wall -Wextra -Werror -DSELF_TEST tests/cases.c tests/reference.c
  */
 #ifndef LIBRARY_H
 #define LIBRARY_H
@@ -48,21 +48,7 @@ static inline uint32_t nuthatchbed_scheduled(const uint8_t *sheet, size_t sheet_
 
 #else
 
-uint32_t nuthatchbed_check(const uint8_t *sheet, size_t sheet_length);
-
-uint32_t nuthatchbed_start(const uint8_t *sheet, size_t sheet_length,
-                           uint8_t *memory, size_t memory_length);
-
-uint32_t nuthatchbed_rounds(const uint8_t *sheet, size_t sheet_length,
-                            uint8_t *memory, size_t memory_length,
-                            const uint8_t *input, size_t input_length,
-                            uint8_t *output, size_t output_length);
-
-uint32_t nuthatchbed_scheduled(const uint8_t *sheet, size_t sheet_length,
-                               uint8_t *memory, size_t memory_length,
-                               const uint8_t *input, size_t input_length,
-                               uint8_t *output, size_t output_length,
-                               const uint8_t *schedule, size_t schedule_length);
+#include "nuthatchbed.h"
 
 #endif
 

@@ -9,10 +9,10 @@ use native.Mathlib.Omega.{arith}
 use lib.ListN.{length, getD, take}
 use lib.Dec.{ltb}
 use borrow.Author.Tests.{ltb-true, ltb-false}
-use Rattle.sheet.specs.Data.{number, typeOfByte, datumOf}
+use Rattle.sheet.specs.Data.{typeOfByte, datumOf}
 use Rattle.sheet.specs.Expressions.{Expression, constant, wire, input, unary, binary, choose, reset, pre, fby, conditional, present}
 use Rattle.sheet.specs.Expressions.{CellForm, cellForms, cellCount}
-use Rattle.sheet.specs.Kinds.{operand, bodyOf, cellsOf, countOf, operandsOf, meaningOf}
+use Rattle.sheet.specs.Kinds.{bodyOf, cellsOf, countOf, operandsOf, meaningOf}
 use Rattle.sheet.specs.Readings.{got, readEach, readExpression, bodyAt, Whole}
 use Rattle.sheet.specs.Sheets.{formsOf}
 use Rattle.sheet_walk.specs.Skips.{Readable}

@@ -1,42 +1,50 @@
--- Demand 3 of the two calls, from what each of them leaves.
+-- The two calls side by side, from what each of them leaves, and demand 3 of them.
 use Prim.Native.Nat.{ℕ}
-use mathlib.Core.Path.{_≡_, refl, sym, _∙_}
-use mathlib.Core.Bool.{true}
+use mathlib.Core.Path.{_≡_, sym, _∙_}
+use mathlib.Core.Bool.{Bool, true, false}
 use mathlib.Core.List.{List}
 use Rattle.sheet.specs.Outcomes.{result, followedBy}
 use Rattle.sheet.specs.declared.Refusal.{Refusal}
-use Rattle.kernel.specs.Calls.{givenOf, inRounds, roundsCall, scheduledCall}
-use Rattle.kernel.specs.Laws.Lists.{never}
-use Rattle.kernel.specs.Laws.Demands.{givesOf, givenFinished, givenRounds, demand2, Demand3, demand3}
+use Rattle.kernel.specs.Calls.{InstantCall, givenOf, inRounds, roundsCall, scheduledCall}
+use Rattle.kernel.specs.Laws.Demands.{givesOf, givenFinished, givenRounds, demand2, demand3}
 use Rattle.kernel.specs.declared.InRounds.{InRounds}
-use Rattle.kernel.specs.declared.InRounds.the-variants.{Refused as RefusedInRounds}
+use Rattle.kernel.specs.declared.InRounds.the-variants.{Refused as RefusedInRounds, Accepted as AcceptedInRounds}
 use Rattle.kernel.specs.declared.Scheduled.{Scheduled}
-use Rattle.kernel.specs.declared.Scheduled.the-variants.{Refused as RefusedScheduled}
+use Rattle.kernel.specs.declared.Scheduled.the-variants.{Refused as RefusedScheduled, Accepted as AcceptedScheduled}
 use Rattle.instant.specs.Leaves.{Leaves}
-use Rattle.instant.specs.Agreement.{BothGiven, Agreed}
+use Rattle.instant.specs.Agreement.{bothAccepted, Beside, BothGiven, Agreed}
 
-module _ {s memory input output copy other list : List ℕ} (g : BothGiven s memory input output copy other list) where
-  three : Demand3 s memory input output other list (g .given)
-  three = demand3 s memory input output other list (g .given) (g .second) (g .passes) (rw (g .copied) at (g .otherPasses)) (g .schedule)
+-- the answers, case by case
+pub first-refused : {x : InRounds} (y : Scheduled) {why : Refusal} {place : ℕ} → x ≡ RefusedInRounds why place → false ≡ bothAccepted x y
+first-refused y e = rw e
 
-  module _ {x : InRounds} {new row : List ℕ} (first : Leaves (roundsCall s memory input output) x new row) where
-    pub rounds-never-refused : {A : Type 0} {why : Refusal} {place : ℕ} → x ≡ RefusedInRounds why place → A
-    rounds-never-refused e = never (cc (first .answers, three .inRoundsAccepted))
+pub second-refused : {x : InRounds} {y : Scheduled} {rounds : ℕ} {why : Refusal} {place : ℕ} → x ≡ AcceptedInRounds rounds
+    → y ≡ RefusedScheduled why place → false ≡ bothAccepted x y
+second-refused e f = rw (e, f)
 
-    module _ {y : Scheduled} {newCopy newRow : List ℕ} (second : Leaves (scheduledCall s copy input other list) y newCopy newRow) where
-      pub schedule-never-refused : {A : Type 0} {why : Refusal} {place : ℕ} → y ≡ RefusedScheduled why place → A
-      schedule-never-refused e = never (cc (rw (g .copied) at (second .answers), three .scheduledAccepted))
+pub none-refused : {x : InRounds} {y : Scheduled} {rounds : ℕ} → x ≡ AcceptedInRounds rounds → y ≡ AcceptedScheduled
+    → true ≡ bothAccepted x y
+none-refused e f = rw (e, f)
 
-      pub agreed : Agreed (g .given) true new row newCopy newRow
-      unfolding roundsCall
-      agreed =
-          let e : followedBy (givenOf s memory input output) inRounds
-          ≡ result (givesOf (g .given) (givenRounds (g .given)) (givenFinished (g .given))) =
-          rw (g .passes) (demand2 (g .given) .accepted (three .full)) in
-          record {
-            both = refl;
-            memories = rw (g .copied) at (second .stores) ∙ sym (three .sameMemory) ∙ sym (first .stores);
-            outputs = rw (g .copied) at (second .writes) ∙ sym (three .sameOutput) ∙ sym (first .writes);
-            stores = rw e at (first .stores);
-            writes = rw e at (first .writes);
-          }
+pub beside : {first : InstantCall InRounds} {second : InstantCall Scheduled} {x : InRounds} {y : Scheduled} {accepted : Bool}
+    {memory output copy other : List ℕ} → Leaves first x memory output → Leaves second y copy other → accepted ≡ bothAccepted x y
+    → Beside first second accepted memory output copy other
+beside l m e = record { answers = rw (l .answers, m .answers) at e; inRounds = (l .stores, l .writes); along = (m .stores, m .writes) }
+
+pub agreed : {s memory input output copy other list : List ℕ} {accepted : Bool} {new row newCopy newRow : List ℕ}
+    → Beside (roundsCall s memory input output) (scheduledCall s copy input other list) accepted new row newCopy newRow
+    → (g : BothGiven s memory input output copy other list) → Agreed (g .given) accepted new row newCopy newRow
+unfolding roundsCall
+agreed {s} {memory} {input} {output} {copy} {other} {list} b g =
+    let three = demand3 s memory input output other list (g .given) (g .second) (g .passes) (rw (g .copied) at (g .otherPasses))
+    (g .schedule) in
+    let e : followedBy (givenOf s memory input output) inRounds
+    ≡ result (givesOf (g .given) (givenRounds (g .given)) (givenFinished (g .given))) =
+    rw (g .passes) (demand2 (g .given) .accepted (three .full)) in
+    record {
+      both = rw (g .copied, three .inRoundsAccepted, three .scheduledAccepted) at (b .answers);
+      memories = rw (g .copied) at (b .along .0) ∙ sym (three .sameMemory) ∙ sym (b .inRounds .0);
+      outputs = rw (g .copied) at (b .along .1) ∙ sym (three .sameOutput) ∙ sym (b .inRounds .1);
+      stores = rw e at (b .inRounds .0);
+      writes = rw e at (b .inRounds .1);
+    }

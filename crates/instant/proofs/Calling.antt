@@ -17,7 +17,7 @@ use Rattle.sheet_walk.specs.Starts.{StartsAt}
 use Rattle.kernel.specs.Values.{isUnknown, IsKnown, known}
 use Rattle.kernel.specs.Order.{valueAt}
 use Rattle.kernel.specs.Systems.{Full}
-use Rattle.kernel.specs.Instants.{wireCount, finished, outputRow}
+use Rattle.kernel.specs.Instants.{wireCount, outputRow}
 use Rattle.kernel.specs.Schedules.{scheduleOf, IsSchedule, pass}
 use Rattle.kernel.specs.Calls.{Given, givenOf, placeOfUnknown, inRounds, scheduled, roundsCall, scheduledCall}
 use Rattle.kernel.specs.Laws.Lists.{never}

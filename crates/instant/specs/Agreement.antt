@@ -1,15 +1,32 @@
--- What demand 3 asks of the two calls side by side, and what it promises of them.
+-- What the two calls leave side by side, and what demand 3 asks and promises of them.
 use Prim.Native.Nat.{ℕ}
 use mathlib.Core.Path.{_≡_}
-use mathlib.Core.Bool.{Bool, true}
+use mathlib.Core.Bool.{Bool, true, false}
 use mathlib.Core.List.{List}
 use Rattle.sheet.specs.Outcomes.{result}
 use Rattle.sheet.specs.Memory.{memoryBytes}
 use Rattle.sheet.specs.Rows.{rowBytes}
 use Rattle.kernel.specs.Instants.{nextMemory, outputRow}
 use Rattle.kernel.specs.Schedules.{IsSchedule}
-use Rattle.kernel.specs.Calls.{Given, givenOf}
+use Rattle.kernel.specs.Calls.{Given, givenOf, InstantCall}
 use Rattle.kernel.specs.Laws.Demands.{givenFinished}
+use Rattle.kernel.specs.declared.InRounds.{InRounds}
+use Rattle.kernel.specs.declared.InRounds.the-variants.{Refused as RefusedInRounds, Accepted as AcceptedInRounds}
+use Rattle.kernel.specs.declared.Scheduled.{Scheduled}
+use Rattle.kernel.specs.declared.Scheduled.the-variants.{Refused as RefusedScheduled, Accepted as AcceptedScheduled}
+
+-- neither answer is a refusal
+abbrev pub bothAccepted : InRounds → Scheduled → Bool
+bothAccepted (RefusedInRounds why place) along = false
+bothAccepted (AcceptedInRounds rounds) (RefusedScheduled why place) = false
+bothAccepted (AcceptedInRounds rounds) AcceptedScheduled = true
+
+-- what the two calls leave, on any buffers, and whether both are accepted
+pub record Beside (first : InstantCall InRounds) (second : InstantCall Scheduled) (accepted : Bool) (memory output copy other : List ℕ)
+    : Type 0 where
+  pub answers : accepted ≡ bothAccepted (first .answer) (second .answer)
+  pub inRounds : (memory ≡ first .memory) × (output ≡ first .output)
+  pub along : (copy ≡ second .memory) × (other ≡ second .output)
 
 -- two copies of one memory and two output rows that pass 1 to 16, and a list as demand 3 has it
 pub record BothGiven (s memory input output copy other list : List ℕ) : Type 0 where

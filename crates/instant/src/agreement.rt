@@ -1,7 +1,8 @@
 // The two instants side by side, on copies of one memory: demand 3 of the order, of the calls. Rests on their contracts.
 use kernel::InRounds;
 use kernel::Scheduled;
-ghost use Rattle.instant.specs.Agreement.{BothGiven, Agreed};
+ghost use Rattle.kernel.specs.Calls.{roundsCall, scheduledCall};
+ghost use Rattle.instant.specs.Agreement.{Beside, BothGiven, Agreed};
 
 // Whether the instant in rounds, on `memory` and `output`, and the instant along a schedule, on `copy` and `other`, are both accepted.
 pub fn both(
@@ -13,7 +14,11 @@ pub fn both(
     other: &mut [u8],
     schedule: &[u8],
 ) -> bool
-    ensures { λ r. ⌜ ((g : BothGiven (now (sheet .entry)) (now (memory .entry)) (now (input .entry)) (now (output .entry))
+    ensures beside { λ r. ⌜ Beside
+        (roundsCall (now (sheet .entry)) (now (memory .entry)) (now (input .entry)) (now (output .entry)))
+        (scheduledCall (now (sheet .entry)) (now (copy .entry)) (now (input .entry)) (now (other .entry)) (now (schedule .entry)))
+        r (now (memory .exit)) (now (output .exit)) (now (copy .exit)) (now (other .exit)) ⌝ }
+    ensures agreed { λ r. ⌜ ((g : BothGiven (now (sheet .entry)) (now (memory .entry)) (now (input .entry)) (now (output .entry))
         (now (copy .entry)) (now (other .entry)) (now (schedule .entry)))
         → Agreed (g .given) r (now (memory .exit)) (now (output .exit)) (now (copy .exit)) (now (other .exit))) ⌝ }
 {

@@ -1,6 +1,6 @@
 -- The two instants as calls: from all buffers to the answer and what the buffers hold, refusals included.
 use Prim.Native.Nat.{ℕ, _*_}
-use mathlib.Core.Bool.{Bool, cond}
+use mathlib.Core.Bool.{cond}
 use mathlib.Core.List.{List}
 use lib.Dec.{ltb}
 use lib.ListN.{length}

@@ -8,7 +8,7 @@ use lib.IntN.{ℤ, pos, negℤ}
 use lib.ListN.{length, replicate}
 use Rattle.sheet.specs.Examples.{quarterBytes}
 use Rattle.sheet.specs.Sheets.{checkOf}
-use Rattle.sheet.specs.Memory.{StartCall, startCall, packedStarted}
+use Rattle.sheet.specs.Memory.{startCall, packedStarted}
 use Rattle.sheet.specs.Rows.{rowBytes}
 use Rattle.sheet.specs.declared.Datum.the-variants.{Number}
 use Rattle.sheet.specs.declared.Checked.{Checked}

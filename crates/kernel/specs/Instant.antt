@@ -2,7 +2,7 @@
 -- Fresh, as document 01 has it, is a place under a reset that fires now: it acts from its starting cells.
 use Prim.Native.Nat.{ℕ, suc, _+_}
 use mathlib.Core.Bool.{Bool, true, false, _||_, Bool·beq, cond}
-use mathlib.Core.List.{List, [], _∷_, _++_, map}
+use mathlib.Core.List.{List, [], _∷_, _++_}
 use lib.ListN.{take, drop, getD}
 use Rattle.sheet.specs.Expressions.{Expression, constant, wire, input, unary, binary, choose, reset, pre, fby}
 use Rattle.sheet.specs.Expressions.{Choice, conditional, present, cellForms, cellCount}
@@ -15,7 +15,7 @@ use Rattle.kernel.specs.Values.{truth, whenKnown, isTrue, datumIn}
 use Rattle.kernel.specs.Order.{valueAt}
 use Rattle.kernel.specs.Operations.{applyUnary, applyBinary}
 use Rattle.kernel.specs.declared.Value.{Value}
-use Rattle.kernel.specs.declared.Value.the-variants.{Unknown, Known}
+use Rattle.kernel.specs.declared.Value.the-variants.{Known}
 
 abbrev pub inputAt : List Datum → ℕ → Datum
 inputAt inputs i = getD inputs i (Boolean false)

@@ -1,6 +1,6 @@
 -- Document 01's table of kinds, a row to a kind: bytes of body, cells owned, types of the operands, own type, and the tree.
 use Prim.Native.Nat.{ℕ, _*_, _/_, _%_, _^_}
-use mathlib.Core.Bool.{Bool, false, cond}
+use mathlib.Core.Bool.{false, cond}
 use mathlib.Core.List.{List, [], _∷_, map}
 use lib.ListN.{length, getD}
 use lib.Dec.{eqb}

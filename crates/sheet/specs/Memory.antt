@@ -8,7 +8,7 @@ use Rattle.numbers.specs.Words.{wordAt, wordBytes}
 use Rattle.sheet.specs.Data.{ValueType, boolean, number, standsFor, datumOf, wordOf}
 use Rattle.sheet.specs.Expressions.{CellForm, fbyCell}
 use Rattle.sheet.specs.Outcomes.{Outcome, refusal, result, followedBy, holdsAfter, unlessLength, unlessAny, packedRefusal}
-use Rattle.sheet.specs.Sheets.{Sheet, sheetForms, sheetOf}
+use Rattle.sheet.specs.Sheets.{sheetForms, sheetOf}
 use Rattle.sheet.specs.declared.Cell.{Cell}
 use Rattle.sheet.specs.declared.Cell.the-variants.{NotStarted, Started}
 use Rattle.sheet.specs.declared.Refusal.the-variants.{MemoryLength, CellContent}

@@ -1,5 +1,5 @@
 -- A sheet: what its bytes say, or the first refusal 1 to 11 with its place; and what the check answers.
-use Prim.Native.Nat.{ℕ, _+_, _-_}
+use Prim.Native.Nat.{ℕ, _-_}
 use mathlib.Core.Bool.{cond, true, false}
 use mathlib.Core.List.{List, [], _∷_, _++_, map}
 use lib.ListN.{length, take, drop}
@@ -9,7 +9,6 @@ use Rattle.sheet.specs.Expressions.{Expression, CellForm, cellForms}
 use Rattle.sheet.specs.Outcomes.{Outcome, refusal, result, packedRefusal}
 use Rattle.sheet.specs.Readings.{Reading, refused, got, andThen, onRead, readEach, readExpression}
 use Rattle.sheet.specs.Headers.{sectionOf}
-use Rattle.sheet.specs.declared.Refusal.{Refusal}
 use Rattle.sheet.specs.declared.Refusal.the-variants.{SheetLength, TypeByte, OutputWire, LeftOver}
 use Rattle.sheet.specs.declared.Checked.{Checked}
 use Rattle.sheet.specs.declared.Checked.the-variants.{Refused, Passed}

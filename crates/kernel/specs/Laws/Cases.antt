@@ -7,7 +7,7 @@ use mathlib.Core.List.{List, [], _∷_}
 use lib.IntN.{pos}
 use Rattle.numbers.specs.Numbers.{lowBits, settled, equals}
 use Rattle.sheet.specs.Data.{boolean, number}
-use Rattle.sheet.specs.Expressions.{Expression, constant, wire, input, unary, binary, choose, cellForms, cellCount}
+use Rattle.sheet.specs.Expressions.{constant, wire, input, unary, binary, choose, cellForms, cellCount}
 use Rattle.sheet.specs.Expressions.{negative, sum, Choice, conditional, present}
 use Rattle.sheet.specs.Kinds.{meaningOf, operandsOf}
 use Rattle.sheet.specs.Outcomes.{result, lowest}

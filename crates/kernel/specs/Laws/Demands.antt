@@ -1,25 +1,21 @@
 -- Demands 2 and 3 of the order, for the outcomes of the calls: accepted just where the least solution is full, refused 20 just where
 -- it is not; and along any schedule the same answer, outputs and next memory as in rounds, whatever the output rows held.
-use mathlib.Core.Path.{_≡_, refl, sym, ap, subst, _∙_}
-use Prim.Native.Nat.{ℕ, suc, _*_, _≤_, _<_}
+use mathlib.Core.Path.{_≡_, refl, subst}
+use Prim.Native.Nat.{ℕ, suc, _≤_, _<_}
 use native.Mathlib.Omega.{arith}
-use mathlib.Core.Bool.{Bool, true, false, cond}
+use mathlib.Core.Bool.{Bool, true, false}
 use mathlib.Core.List.{List}
-use lib.Dec.{ltb}
-use lib.ListN.{length}
-use borrow.Author.Tests.{ltb-true, lt-ltb}
-use Rattle.sheet.specs.Outcomes.{Outcome, refusal, result, followedBy, lowest}
-use Rattle.sheet.specs.Sheets.{Sheet, sheetForms, sheetOf}
-use Rattle.sheet.specs.Memory.{memoryOf, memoryBytes}
-use Rattle.sheet.specs.Rows.{inputsOf, rowBytes}
-use Rattle.sheet.specs.Laws.Lowest.{lowest-bound, lowest-passes, lowest-first, lowest-below, none-lowest}
-use Rattle.sheet.specs.Laws.Outcomes.{length-passed, followed}
+use borrow.Author.Tests.{lt-ltb}
+use Rattle.sheet.specs.Outcomes.{refusal, result, followedBy, lowest}
+use Rattle.sheet.specs.Memory.{memoryBytes}
+use Rattle.sheet.specs.Rows.{rowBytes}
+use Rattle.sheet.specs.Laws.Lowest.{lowest-passes, lowest-first, lowest-below, none-lowest}
 use Rattle.sheet.specs.declared.Refusal.the-variants.{StaysUnknown}
 use Rattle.kernel.specs.Values.{isUnknown, IsKnown, known}
 use Rattle.kernel.specs.Order.{_⊑*_, valueAt}
 use Rattle.kernel.specs.Systems.{Full, Solution}
 use Rattle.kernel.specs.Instants.{wireCount, round, rounds, finished, nextMemory, outputRow}
-use Rattle.kernel.specs.Schedules.{scheduleOf, IsSchedule, pass}
+use Rattle.kernel.specs.Schedules.{IsSchedule, pass}
 use Rattle.kernel.specs.Calls.{Given, givenOf, placeOfUnknown, Accepted, acceptedOf, inRounds, scheduled, roundsCall, scheduledCall}
 use Rattle.kernel.specs.Laws.Lists.{never}
 use Rattle.kernel.specs.Laws.Given.{given-same}

@@ -45,7 +45,8 @@ among-append x (y ∷ xs) ys = go (eqb x y) (among-append x xs ys)
     go true e = refl
     go false e = e
 
-pub all-among : (ys : List ℕ) {P : ℕ → Type 0} → ((y : ℕ) → P y → among y ys ≡ true) → (xs : List ℕ) → Every P xs → allAmong xs ys ≡ true
+pub all-among : (ys : List ℕ) {P : ℕ → Type 0} → ((y : ℕ) → P y → among y ys ≡ true)
+    → (xs : List ℕ) → Every P xs → allAmong xs ys ≡ true
 unfolding allAmong
 all-among ys h [] none = refl
 all-among ys h (x ∷ xs) (p and ps) = rw (h x p) (all-among ys h xs ps)

@@ -1,4 +1,5 @@
--- Checks 17 to 19 pass just the schedules that demand 3 speaks of. One pass along a schedule leaves no wire unknown and ends in the finished values of the rounds.
+-- Checks 17 to 19 pass just the schedules that demand 3 speaks of. One pass along a schedule leaves no wire unknown and ends in the
+-- finished values of the rounds.
 use mathlib.Core.Path.{_≡_, refl, sym, subst, _∙_}
 use Prim.Native.Nat.{ℕ, zero, suc, _<_, _≤_}
 use native.Mathlib.Omega.{arith}

@@ -1,19 +1,18 @@
 -- Buffers that passed 1 to 16 are what an instant runs on.
 use Prim.Native.Nat.{ℕ, zero, suc, _+_, _-_, _*_, _/_, _%_, _≤_, _<_}
 use mathlib.Core.Path.{_≡_, refl, sym, ap, ap₂, _∙_}
-use mathlib.Core.Bool.{Bool, true, false, not, _&&_, cond}
+use mathlib.Core.Bool.{Bool, true, false, _&&_, cond}
 use mathlib.Core.List.{List, [], _∷_, map}
 use Rattle.sheet.specs.declared.Datum.{Datum}
 use Rattle.sheet.specs.declared.Refusal.the-variants.{InputLength, InputContent, TypeByte, OutputWire}
 use native.Mathlib.Omega.{arith}
-use lib.Dec.{eqb, ltb}
+use lib.Dec.{eqb}
 use lib.ListN.{length, getD, take, drop, length-take, length-drop, length-map}
 use lib.Seq.{ext-getD, getD-take, getD-drop}
 use borrow.Author.Tests.{eqb-true, eqb-false, ltb-true}
 use mir.Syntax.{w32}
-use mir.Val.{toZ, ofZ}
 use mir.Facts.{ofZ-toZ}
-use Rattle.numbers.specs.Words.{wordAt, wordBytes}
+use Rattle.numbers.specs.Words.{wordBytes}
 use Rattle.numbers.specs.Laws.{word-bound}
 use Rattle.sheet.specs.Data.{ValueType, boolean, number, typeOfByte, standsFor, datumOf, wordOf}
 use Rattle.sheet.specs.Expressions.{Expression, CellForm, fbyCell}
@@ -23,7 +22,7 @@ use Rattle.sheet.specs.Memory.{startsEmpty, cellBytes, markAt, cellWordAt, read
 use Rattle.sheet.specs.Rows.{entryAt, wrongAt, dataFrom, inputsOf}
 use Rattle.sheet.specs.Sheets.{Sheet, sheetForms, before}
 use Rattle.sheet.specs.Laws.Outcomes.{same-result, length-passed, any-passed}
-use Rattle.sheet.specs.Laws.Headers.{SheetRead, sheet-view, section-good, section-length}
+use Rattle.sheet.specs.Laws.Headers.{sheet-view, section-good, section-length}
 use Rattle.sheet.specs.Laws.Typing.{passed-check}
 use Rattle.sheet.specs.Laws.Memory.{memory-view}
 use Rattle.sheet.specs.declared.Cell.{Cell}
@@ -34,7 +33,7 @@ use Rattle.kernel.specs.Laws.Lists.{both}
 use Rattle.kernel.specs.Laws.Given.{given-by}
 use Rattle.kernel.specs.Laws.Memory.{given-valid}
 use Rattle.rounds.specs.Running.{Running}
-use Rattle.expression.specs.Places.{CellStands, CellsStand, none, more}
+use Rattle.expression.specs.Places.{CellsStand, none, more}
 
 abbrev pub Bytes : List ℕ → Type 0
 Bytes s = (i : ℕ) → getD s i 0 < 256

@@ -1,6 +1,6 @@
 -- `both` meets its contract.
 use borrow.Author.Needs.{needs}
-use Rattle.instant.proofs.Agreeing.{rounds-never-refused, schedule-never-refused, agreed}
+use Rattle.instant.proofs.Agreeing.{first-refused, second-refused, none-refused, beside, agreed}
 use Rattle.instant.proofs.agreement.both.Statement.{statement}
 use Rattle.instant.proofs.agreement.both.Tie as tie
 
@@ -34,7 +34,10 @@ same-length-4 c = search needs
 
 returns : tie.Need-returns
 returns c =
-    λ g. rounds-never-refused g (in-turn (c .before .before .before .before .before .before) .in-rounds .ensures) (c .enum-told2 .given .1)
+    let second = c .before .before .before .before .before .before in
+    let e = first-refused (second .along-schedule .result) (c .enum-told2 .given .1) in
+    let b = beside (in-turn second .in-rounds .ensures) (second .along-schedule .ensures) e in
+    (b, λ g. agreed b g)
 
 enum-told-3 : tie.Need-enum-told-3
 enum-told-3 c = search needs
@@ -56,8 +59,10 @@ same-length-8 c = search needs
 
 returns-2 : tie.Need-returns-2
 returns-2 c =
-    let along = c .before .before .before .before .before .before .before .before in
-    λ g. schedule-never-refused g (in-turn along .in-rounds .ensures) (along .along-schedule .ensures) (c .enum-told4 .given .1)
+    let second = c .before .before .before .before .before .before .before .before in
+    let e = second-refused (c .before .before .enum-told .given .1) (c .enum-told4 .given .1) in
+    let b = beside (in-turn second .in-rounds .ensures) (second .along-schedule .ensures) e in
+    (b, λ g. agreed b g)
 
 same-length-9 : tie.Need-same-length-9
 same-length-9 c = search needs
@@ -73,8 +78,10 @@ same-length-12 c = search needs
 
 returns-3 : tie.Need-returns-3
 returns-3 c =
-    let along = c .before .before .before .before .before .before .before .before in
-    λ g. agreed g (in-turn along .in-rounds .ensures) (along .along-schedule .ensures)
+    let second = c .before .before .before .before .before .before .before .before in
+    let e = none-refused (c .before .before .enum-told .given .1) (c .enum-told3 .given .1) in
+    let b = beside (in-turn second .in-rounds .ensures) (second .along-schedule .ensures) e in
+    (b, λ g. agreed b g)
 
 pub both-spec : {M : Type 1} → statement M
 both-spec =

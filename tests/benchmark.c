@@ -6,8 +6,9 @@
  *      target/staticlib/libnuthatchbed.a -lpthread -o target/benchmark
  */
 #define _POSIX_C_SOURCE 200809L
-#include "nuthatchbed.h"
+#include "library.h"
 #include "reference.h"
+#include "calls.h"
 
 #include <pthread.h>
 #include <stdio.h>
@@ -32,40 +33,18 @@ struct sheet {
     uint8_t schedule[NUTHATCHBED_WIRES];
 };
 
-enum call { call_check, call_start, call_rounds, call_scheduled, calls };
-
-static const char *const call_names[calls] = {"check", "start", "rounds", "scheduled"};
-
-static uint32_t run_library(enum call call, struct sheet *s)
+static uint32_t call_of(const struct implementation *implementation, enum call call, struct sheet *s)
 {
-    switch (call) {
-    case call_check:
-        return nuthatchbed_check(s->bytes, s->length);
-    case call_start:
-        return nuthatchbed_start(s->bytes, s->length, s->memory, s->memory_length);
-    case call_rounds:
-        return nuthatchbed_rounds(s->bytes, s->length, s->memory, s->memory_length, s->input, s->input_length, s->output,
-                                  s->output_length);
-    default:
-        return nuthatchbed_scheduled(s->bytes, s->length, s->memory, s->memory_length, s->input, s->input_length, s->output,
-                                     s->output_length, s->schedule, s->wires);
-    }
-}
-
-static uint32_t run_reference(enum call call, struct sheet *s)
-{
-    switch (call) {
-    case call_check:
-        return reference_check(s->bytes, s->length);
-    case call_start:
-        return reference_start(s->bytes, s->length, s->memory, s->memory_length);
-    case call_rounds:
-        return reference_rounds(s->bytes, s->length, s->memory, s->memory_length, s->input, s->input_length, s->output,
-                                s->output_length);
-    default:
-        return reference_scheduled(s->bytes, s->length, s->memory, s->memory_length, s->input, s->input_length, s->output,
-                                   s->output_length, s->schedule, s->wires);
-    }
+    const struct arguments arguments = {
+        .of = {
+            [role_sheet] = {s->bytes, s->length},
+            [role_memory] = {s->memory, s->memory_length},
+            [role_input] = {s->input, s->input_length},
+            [role_output] = {s->output, s->output_length},
+            [role_schedule] = {s->schedule, s->wires},
+        },
+    };
+    return run(implementation, call, &arguments);
 }
 
 /* ---- Sheets ---- */
@@ -201,25 +180,25 @@ static double median(double *times)
 
 static volatile uint32_t sink;
 
-static double time_of(uint32_t (*run)(enum call, struct sheet *), enum call call, struct sheet *s, unsigned turns)
+static double time_of(const struct implementation *implementation, enum call call, struct sheet *s, unsigned turns)
 {
     const double start = now();
     for (unsigned turn = 0; turn < turns; turn++)
-        sink += run(call, s);
+        sink += call_of(implementation, call, s);
     return (now() - start) / turns;
 }
 
 /* Sampled in turn, so that whatever else the machine does falls on both. */
 static void compare(enum call call, struct sheet *s)
 {
-    double library[samples], reference[samples];
-    const double once = time_of(run_reference, call, s, 100);
+    double of_library[samples], of_reference[samples];
+    const double once = time_of(&reference, call, s, 100);
     const unsigned turns = once < 500000 ? (unsigned)(500000 / once) + 1 : 1;
     for (unsigned sample = 0; sample < samples; sample++) {
-        library[sample] = time_of(run_library, call, s, turns);
-        reference[sample] = time_of(run_reference, call, s, turns);
+        of_library[sample] = time_of(&library, call, s, turns);
+        of_reference[sample] = time_of(&reference, call, s, turns);
     }
-    const double a = median(library), b = median(reference);
+    const double a = median(of_library), b = median(of_reference);
     printf("| %-9s | %-22s | %9.0f | %9.0f | %5.2f |\n", call_names[call], s->name, a, b, a / b);
 }
 
@@ -234,7 +213,7 @@ static void *run_job(void *data)
 {
     const struct job *const job = data;
     if (job->call < calls)
-        sink += run_library(job->call, job->sheet);
+        sink += call_of(&library, job->call, job->sheet);
     return NULL;
 }
 
@@ -274,7 +253,7 @@ int main(void)
         }
         s->memory_length = cells * NUTHATCHBED_CELL_BYTES;
         for (unsigned call = 0; call < calls; call++) {
-            if (nuthatchbed_refusal(run_library((enum call)call, s)) != 0)
+            if (nuthatchbed_refusal(call_of(&library, (enum call)call, s)) != 0)
                 return 1;
             compare((enum call)call, s);
         }

@@ -8,14 +8,11 @@
  *   cc -std=c11 -O2 -Wall -Wextra -Werror -DSELF_TEST tests/cases.c tests/reference.c -o target/cases
  */
 #include "library.h"
+#include "calls.h"
 
 #include <stdbool.h>
 #include <stdio.h>
 #include <string.h>
-
-enum call { call_check, call_start, call_rounds, call_scheduled };
-
-static const char *const call_names[] = {"check", "start", "rounds", "scheduled"};
 
 struct bytes {
     const uint8_t *start;
@@ -808,25 +805,16 @@ static bool holds(const struct guarded *guarded, const uint8_t *bytes)
 
 static uint32_t make_call(enum call call, const struct row *row, struct guarded_buffers *buffers)
 {
-    const uint8_t *const sheet = guard(&buffers->sheet, row->sheet.start, row->sheet.length);
-    uint8_t *const memory = guard(&buffers->memory, row->memory.start, row->memory.length);
-    const uint8_t *const input = guard(&buffers->input, row->input.start, row->input.length);
-    uint8_t *const output = guard(&buffers->output, NULL, row->output_length);
-    const uint8_t *const schedule =
-        guard(&buffers->schedule, row->schedule.start, row->schedule.length);
-    switch (call) {
-    case call_check:
-        return nuthatchbed_check(sheet, row->sheet.length);
-    case call_start:
-        return nuthatchbed_start(sheet, row->sheet.length, memory, row->memory.length);
-    case call_rounds:
-        return nuthatchbed_rounds(sheet, row->sheet.length, memory, row->memory.length, input,
-                                  row->input.length, output, row->output_length);
-    default:
-        return nuthatchbed_scheduled(sheet, row->sheet.length, memory, row->memory.length, input,
-                                     row->input.length, output, row->output_length, schedule,
-                                     row->schedule.length);
-    }
+    struct arguments arguments = {
+        .of = {
+            [role_sheet] = {guard(&buffers->sheet, row->sheet.start, row->sheet.length), row->sheet.length},
+            [role_memory] = {guard(&buffers->memory, row->memory.start, row->memory.length), row->memory.length},
+            [role_input] = {guard(&buffers->input, row->input.start, row->input.length), row->input.length},
+            [role_output] = {guard(&buffers->output, NULL, row->output_length), row->output_length},
+            [role_schedule] = {guard(&buffers->schedule, row->schedule.start, row->schedule.length), row->schedule.length},
+        },
+    };
+    return run(&library, call, &arguments);
 }
 
 static bool passes(enum call call, const struct row *row, struct guarded_buffers *buffers)

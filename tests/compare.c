@@ -11,6 +11,7 @@
  */
 #include "library.h"
 #include "reference.h"
+#include "calls.h"
 
 #include <errno.h>
 #include <stdbool.h>
@@ -90,8 +91,6 @@ static uint32_t random_value(struct random *random, unsigned type)
 }
 
 /* ---- Buffers ---- */
-
-enum role { role_sheet, role_memory, role_input, role_output, role_schedule, roles };
 
 static const char *const role_names[roles] = {"sheet", "memory", "input", "output", "schedule"};
 
@@ -203,10 +202,6 @@ static bool canaries_live(struct side *side)
 
 /* ---- One call, made of both implementations ---- */
 
-enum call { call_check, call_start, call_rounds, call_scheduled, calls };
-
-static const char *const call_names[calls] = {"check", "start", "rounds", "scheduled"};
-
 /* Which refusals document 01 gives to each call, one bit for each number. */
 #define REFUSALS_FROM_TO(first, last) ((UINT32_C(2) << (last)) - (UINT32_C(1) << (first)))
 static const uint32_t refusals_of_call[calls] = {
@@ -232,56 +227,14 @@ struct harness {
     struct statistics statistics;
 };
 
-static uint32_t call_library(enum call call, struct side *side)
+static uint32_t call_of(const struct implementation *implementation, enum call call, struct side *side)
 {
-    const uint8_t *const sheet = content(side, role_sheet);
-    const size_t sheet_length = side->of[role_sheet].length;
-    uint8_t *const memory = content(side, role_memory);
-    const size_t memory_length = side->of[role_memory].length;
-    const uint8_t *const input = content(side, role_input);
-    const size_t input_length = side->of[role_input].length;
-    uint8_t *const output = content(side, role_output);
-    const size_t output_length = side->of[role_output].length;
-    switch (call) {
-    case call_check:
-        return nuthatchbed_check(sheet, sheet_length);
-    case call_start:
-        return nuthatchbed_start(sheet, sheet_length, memory, memory_length);
-    case call_rounds:
-        return nuthatchbed_rounds(sheet, sheet_length, memory, memory_length, input,
-                                  input_length, output, output_length);
-    default:
-        return nuthatchbed_scheduled(sheet, sheet_length, memory, memory_length, input,
-                                     input_length, output, output_length,
-                                     content(side, role_schedule),
-                                     side->of[role_schedule].length);
+    struct arguments arguments;
+    for (unsigned role = 0; role < roles; role++) {
+        arguments.of[role].bytes = content(side, role);
+        arguments.of[role].length = side->of[role].length;
     }
-}
-
-static uint32_t call_reference(enum call call, struct side *side)
-{
-    const uint8_t *const sheet = content(side, role_sheet);
-    const size_t sheet_length = side->of[role_sheet].length;
-    uint8_t *const memory = content(side, role_memory);
-    const size_t memory_length = side->of[role_memory].length;
-    const uint8_t *const input = content(side, role_input);
-    const size_t input_length = side->of[role_input].length;
-    uint8_t *const output = content(side, role_output);
-    const size_t output_length = side->of[role_output].length;
-    switch (call) {
-    case call_check:
-        return reference_check(sheet, sheet_length);
-    case call_start:
-        return reference_start(sheet, sheet_length, memory, memory_length);
-    case call_rounds:
-        return reference_rounds(sheet, sheet_length, memory, memory_length, input,
-                                input_length, output, output_length);
-    default:
-        return reference_scheduled(sheet, sheet_length, memory, memory_length, input,
-                                   input_length, output, output_length,
-                                   content(side, role_schedule),
-                                   side->of[role_schedule].length);
-    }
+    return run(implementation, call, &arguments);
 }
 
 static void print_bytes(const char *whose, const char *name, const uint8_t *bytes, size_t length)
@@ -349,8 +302,8 @@ static uint32_t compare_call(struct harness *harness, enum call call,
     const uint8_t canary = (uint8_t)(next_random(&harness->random) >> 56);
     guard(&harness->library, before, canary);
     guard(&harness->reference, before, (uint8_t)~canary);
-    harness->library_answer = call_library(call, &harness->library);
-    harness->reference_answer = call_reference(call, &harness->reference);
+    harness->library_answer = call_of(&library, call, &harness->library);
+    harness->reference_answer = call_of(&reference, call, &harness->reference);
     demand_same_buffers(harness, call, before);
     harness->statistics.met[call][harness->library_answer >> 16]++;
     if (after != before)

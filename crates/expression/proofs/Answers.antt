@@ -4,14 +4,14 @@ use mathlib.Core.Path.{_≡_, refl, sym, ap, subst, _∙_}
 use mathlib.Core.Bool.{Bool, true, false, _||_, cond}
 use mathlib.Core.List.{List}
 use native.Mathlib.Omega.{arith}
+use lib.Dec.{eqb, ltb}
 use lib.ListN.{getD, take}
-use Rattle.wires.specs.Sets.{member}
+use borrow.Author.Tests.{eq-eqb, ne-eqb, eqb-true, eqb-false, ltb-true, ltb-false}
 use Rattle.sheet.specs.Data.{typeOfByte, datumOf}
-use Rattle.sheet.specs.Expressions.{choose, present, conditional}
+use Rattle.sheet.specs.Expressions.{Expression, choose, present, conditional}
 use Rattle.sheet.specs.Kinds.{bodyOf, countOf, operandsOf}
 use Rattle.sheet.specs.Memory.{readCell}
 use Rattle.sheet.specs.Readings.{bodyAt}
-use Rattle.sheet.specs.Rows.{entryAt}
 use Rattle.sheet.specs.declared.Datum.{Datum}
 use Rattle.sheet.specs.declared.Cell.{Cell}
 use Rattle.sheet.specs.declared.Cell.the-variants.{NotStarted, Started}
@@ -23,7 +23,8 @@ use Rattle.kernel.specs.declared.Value.{Value}
 use Rattle.kernel.specs.declared.Value.the-variants.{Unknown, Known}
 use Rattle.expression.specs.declared.Valued.{Valued}
 use Rattle.expression.specs.Places.{Placement, valueOfWord, valuedOf}
-use Rattle.expression.proofs.Views.{placed, readable, Three, own-cell}
+use Rattle.expression.specs.Leaves.{knownBy, leafWord, leafValued}
+use Rattle.expression.proofs.Views.{placed, readable, Alone, Three, own-cell}
 use Rattle.expression.proofs.Views.{unary-view, binary-view, conditional-view, present-view, reset-view, fby-view, pre-view}
 use Rattle.expression.proofs.Views.{constant-view, wire-view, input-view}
 use Rattle.expression.proofs.Values.{Answers, Walked, by-value, by-walk, value-behind, walk-behind, operandValue, wholeValue, finished}
@@ -171,29 +172,26 @@ module _ {sheet row memory words : List ℕ} {bits level asked at cell : ℕ}
         ap (λ e. value (p .now) fresh e cell) (w .ends .tree) ∙ rw (held, own-kept low is, means, reads) in
         finished p fresh (w .ends) (sym v) (ends .next) (ends .count)
 
-    pub constant-answer : kind < 2 → {d : Datum} → d ≡ datumOf (typeOfByte asked) body
-        → record { value = Known d; next = at + 1 + size; cell = cell } ≡ valuedOf p fresh
-    unfolding value
-    constant-answer below is =
-        let w = constant-view p below in
-        finished p fresh w (rw (is, reads) (sym (ap (λ e. value (p .now) fresh e cell) (w .tree)))) (rw sized) refl
+  -- a constant, a wire or an input
+  leaf-finished : {e : Expression} → Alone p (at + 1 + bodyOf kind) cell e
+      → valueOfWord (knownBy bits kind (bodyAt sheet at)) (typeOfByte asked) (leafWord sheet row words at) ≡ value (p .now) fresh e cell
+      → leafValued sheet row words bits asked at cell ≡ valuedOf p fresh
+  leaf-finished w same = finished p fresh w (same ∙ sym (ap (λ e. value (p .now) fresh e cell) (w .tree))) refl refl
 
-    pub wire-answer : kind ≡ 2 → {v : Value}
-        → v ≡ valueOfWord (member bits body) (typeOfByte asked) (getD words body 0)
-        → record { value = v; next = at + 1 + size; cell = cell } ≡ valuedOf p fresh
-    unfolding value
-    wire-answer of {v} is =
-        let w = wire-view p of in
-        let stands = p .stands .onWires (bodyAt sheet at) (w .within) in
-        let same : wholeValue p fresh ≡ v = ap (λ e. value (p .now) fresh e cell) (w .leaf .tree) ∙ stands ∙ rw (w .typed, is, reads) in
-        finished p fresh (w .leaf) (sym same) (rw sized) refl
-
-    pub input-answer : kind ≡ 3 → {d : Datum} → d ≡ datumOf (typeOfByte asked) (entryAt row body)
-        → record { value = Known d; next = at + 1 + size; cell = cell } ≡ valuedOf p fresh
-    unfolding value
-    input-answer of {d} is =
-        let w = input-view p of in
-        let stands = p .stands .onInputs (bodyAt sheet at) (w .within) in
-        let same : wholeValue p fresh ≡ Known d =
-        ap (λ e. value (p .now) fresh e cell) (w .leaf .tree) ∙ ap Known stands ∙ rw (w .typed, is, reads) in
-        finished p fresh (w .leaf) (sym same) (rw sized) refl
+  pub leaf-answer : kind < 4 → leafValued sheet row words bits asked at cell ≡ valuedOf p fresh
+  unfolding value
+  leaf-answer below = by (ltb kind 2) refl (eqb kind 2) refl
+    where
+      by : (b : Bool) → ltb kind 2 ≡ b → (c : Bool) → eqb kind 2 ≡ c → leafValued sheet row words bits asked at cell ≡ valuedOf p fresh
+      by true e c f =
+          let low : kind < 2 = ltb-true kind 2 e in
+          leaf-finished (constant-view p low) (rw (ne-eqb kind 2 (λ is. omega arith), ne-eqb kind 3 (λ is. omega arith)))
+      by false e true f =
+          let w = wire-view p (eqb-true kind 2 f) in
+          leaf-finished (w .leaf) (rw f (sym (p .stands .onWires (bodyAt sheet at) (w .within) ∙ rw (w .typed))))
+      by false e false f =
+          let high : 2 ≤ kind = ltb-false kind 2 e in
+          let other = eqb-false kind 2 f in
+          let of : kind ≡ 3 = omega arith in
+          let w = input-view p of in
+          leaf-finished (w .leaf) (rw (f, eq-eqb kind 3 of) (ap Known (sym (p .stands .onInputs (bodyAt sheet at) (w .within) ∙ rw (w .typed)))))

@@ -1,5 +1,6 @@
 -- What the proofs of several functions use.
 pub mod Rows
+pub mod Leaves
 pub mod Views
 pub mod Values
 pub mod Answers

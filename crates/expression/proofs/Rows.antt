@@ -11,10 +11,6 @@ use Rattle.sheet.specs.Kinds.{Meaning, operand, bodyOf, cellsOf, countOf, opera
 use Rattle.sheet.specs.Laws.Readings.{ownForms, every-kind, Rows, _▸_, end, row-at}
 use Rattle.kernel.specs.Operations.{unaryOf, binaryOf}
 
-pub own-length : (type : ValueType) (body k : ℕ) → k < 18 → length (ownForms k type body) ≡ cellsOf k
-own-length type body = every-kind (λ k. length (ownForms k type body) ≡ cellsOf k)
-    (refl ▸ refl ▸ refl ▸ refl ▸ refl ▸ refl ▸ refl ▸ refl ▸ refl ▸ refl ▸ refl ▸ refl ▸ refl ▸ refl ▸ refl ▸ refl ▸ refl ▸ refl ▸ end)
-
 -- what is shown of some rows, one behind the other, holds of every kind between them
 among : (P : ℕ → Type 0) {low n : ℕ} → Rows P low n → (k : ℕ) → low ≤ k → k < low + n → P k
 among P {low} rows k above below =
@@ -88,3 +84,19 @@ pub two-types : (xs ts : List ℕ) → take 2 xs ≡ ts → length ts ≡ 2 → 
 two-types [] ts e n = absurd (omega (arith, ap length e))
 two-types (x ∷ []) ts e n = absurd (omega (arith, ap length e))
 two-types (x ∷ y ∷ xs) ts e n = sym e
+
+-- the body of a leaf: one byte, but of a number's constant four
+abbrev LeafBody : ℕ → Type 0
+LeafBody k = (1 ≤ bodyOf k) × ((k ≡ 1 → ⊥) → 1 ≡ bodyOf k)
+
+leaf-row : (k : ℕ) → k < 4 → LeafBody k
+leaf-row k below = among LeafBody {low = 0} (one ▸ (omega arith, λ n. absurd (n refl)) ▸ one ▸ one ▸ end) k (omega arith) (omega arith)
+  where
+    one : {n : ℕ} → (1 ≤ 1) × ((n ≡ 1 → ⊥) → _≡_ {A = ℕ} 1 1)
+    one = (omega arith, λ n. refl)
+
+pub leaf-sized : (k : ℕ) → k < 4 → 1 ≤ bodyOf k
+leaf-sized k below = leaf-row k below .0
+
+pub leaf-body : (k : ℕ) → k < 4 → (k ≡ 1 → ⊥) → 1 ≡ bodyOf k
+leaf-body k below = leaf-row k below .1

@@ -104,7 +104,8 @@ module _ {sheet row memory words : List ℕ} {bits level asked at cell : ℕ}
   binary-value v = ap (λ e. value (p .now) fresh e cell) (v .ends .tree) ∙ rw (operand-counted p (v .first))
 
   pub choose-value : {o : Choice} {t u w a : ℕ} (v : Three p t u w a cell (choose o))
-      → wholeValue ≡ whenKnown (operandValue p fresh (v .first)) (λ t. chosen o (truth t) (operandValue p fresh (v .second)) (operandValue p fresh (v .third)))
+      → wholeValue ≡ whenKnown (operandValue p fresh (v .first))
+      (λ t. chosen o (truth t) (operandValue p fresh (v .second)) (operandValue p fresh (v .third)))
   unfolding value
   choose-value v =
       ap (λ e. value (p .now) fresh e cell) (v .ends .tree)
@@ -120,11 +121,13 @@ module _ {sheet row memory words : List ℕ} {bits level asked at cell : ℕ}
       → wholeValue ≡ Unknown
   choice-unknown {o} v e =
       choose-value v
-      ∙ when-unknown (operandValue p fresh (v .first)) (λ t. chosen o (truth t) (operandValue p fresh (v .second)) (operandValue p fresh (v .third))) e
+      ∙ when-unknown (operandValue p fresh (v .first))
+      (λ t. chosen o (truth t) (operandValue p fresh (v .second)) (operandValue p fresh (v .third))) e
 
   pub first-chosen : {t u w a : ℕ} (v : Three p t u w a cell (choose present)) → isTrue (operandValue p fresh (v .first)) ≡ true
       → wholeValue ≡ operandValue p fresh (v .second)
-  first-chosen v e = choose-value v ∙ present-true (operandValue p fresh (v .first)) (operandValue p fresh (v .second)) (operandValue p fresh (v .third)) e
+  first-chosen v e =
+      choose-value v ∙ present-true (operandValue p fresh (v .first)) (operandValue p fresh (v .second)) (operandValue p fresh (v .third)) e
 
   pub second-chosen : {t u w a : ℕ} (v : Three p t u w a cell (choose present)) → isTrue (operandValue p fresh (v .first)) ≡ false
       → isUnknown (operandValue p fresh (v .first)) ≡ false → wholeValue ≡ operandValue p fresh (v .third)

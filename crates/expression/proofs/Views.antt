@@ -16,13 +16,14 @@ use Rattle.sheet.specs.Kinds.{bodyOf, cellsOf, countOf, operandsOf, meaningOf}
 use Rattle.sheet.specs.Readings.{got, readEach, readExpression, bodyAt, Whole}
 use Rattle.sheet.specs.Sheets.{formsOf}
 use Rattle.sheet_walk.specs.Skips.{Readable}
-use Rattle.sheet.specs.Laws.Readings.{OwnGood, ExpressionRead, expression-view, no-level, run-view, expression-extent, run-extent}
+use Rattle.sheet.specs.Laws.Readings.{OwnGood, ExpressionRead, expression-view, no-level, run-view, expression-extent, run-extent, own-forms-length}
 use Rattle.sheet.specs.Laws.Readings.{forms-length, operands-counted, ownForms, forms-of-kind}
 use Rattle.sheet.specs.Memory.{readCell}
 use Rattle.sheet.specs.declared.Cell.{Cell}
 use Rattle.kernel.specs.Instant.{cellAt}
 use Rattle.kernel.specs.Operations.{unaryOf, binaryOf}
-use Rattle.expression.proofs.Rows.{own-length, unary-row, binary-row, pre-row, constant-row, cell-row, no-type, one-type, two-types}
+use Rattle.expression.proofs.Rows.{unary-row, binary-row, pre-row, constant-row, cell-row, no-type, one-type, two-types}
+use Rattle.expression.specs.Leaves.{Leaf}
 use Rattle.expression.specs.Places.{CellStands, CellsStand, none, more, Placement}
 
 -- the cells of two runs of forms stand one run behind the other
@@ -148,7 +149,7 @@ module _ {sheet row memory words : List ℕ} {bits level asked at cell : ℕ}
         good = rw (g .next, g .count) at g;
         own = both .0;
         operands = v .operands;
-        run = record { reads = rw (g .next, g .count) at (v .each); cells = rw (own-length _ _ kind (g .kind)) at (both .1) };
+        run = record { reads = rw (g .next, g .count) at (v .each); cells = rw (own-forms-length _ _ kind (g .kind)) at (both .1) };
         tree = v .tree;
       }
 
@@ -207,7 +208,8 @@ module _ {sheet row memory words : List ℕ} {bits level asked at cell : ℕ}
       let rest = run-of-one (λ es. f (s .first .tree ∷ es)) (e ∙ ap f (s .trees)) (s .rest) in
       record { first = s .first; second = rest .first; ends = rest .ends }
 
-  run-of-three : {t u v a k : ℕ} {es : List Expression} (f : List Expression → Expression) → p .tree ≡ f es → Run (t ∷ u ∷ v ∷ []) a k es
+  run-of-three : {t u v a k : ℕ} {es : List Expression} (f : List Expression → Expression) → p .tree ≡ f es
+      → Run (t ∷ u ∷ v ∷ []) a k es
       → Three t u v a k (λ x y z. f (x ∷ y ∷ z ∷ []))
   run-of-three {t} {u} {v} {a} {k} f e r =
       let s = split t (u ∷ v ∷ []) a k r in
@@ -326,6 +328,15 @@ module _ {sheet row memory words : List ℕ} {bits level asked at cell : ℕ}
     leaf = alone (record { types = rw is; place = refl; cells = rw is (omega arith) }) (rw is);
     within = rw is (rw is at (opened .good .names));
     typed = rw is (rw is at (opened .good .type));
+  }
+
+  -- for the value of a constant, a wire or an input
+  pub leaf-of : kind < 4 → Leaf sheet row at
+  leaf-of below = record {
+    whole = whole;
+    kind = below;
+    wire = λ of. omega (arith, wire-view of .within, p .stands .wireLimit);
+    entry = λ of. omega (arith, input-view of .within, p .stands .inputSize);
   }
 
   -- the cell that a pre or an fby owns

@@ -1,99 +1,76 @@
-// The value of an expression over the sheet's bytes, an input row, a memory and the wires known so far.
-// Rests on `kernel` for the operations, and on `sheet` for the table of kinds, cells and the walk past an operand.
+// The value of an expression over the sheet's bytes, an input row, a memory and the wires known so far. Row and memory stand
+// behind one more reference, so that a call hands on their addresses and copies no slice.
+// Rests on `kernel` for the operations, on `leaf`, and on `sheet` for the table of kinds, cells and the walk past an operand.
 use crate::Valued;
+use crate::leaf;
 use kernel::Value;
 use sheet::Cell;
 use sheet::bodies;
 use sheet::data;
 use sheet::kinds;
 use sheet::memory;
-use sheet::rows;
 use sheet_walk::skip;
 use wires::Wires;
 ghost use mathlib.Core.Path.{_≡_};
 ghost use Prim.Native.Nat.{_≤_, _<_};
-ghost use lib.ListN.{length, getD};
-ghost use Rattle.wires.specs.Sets.{member};
-ghost use Rattle.sheet.specs.Data.{typeOfByte};
-ghost use Rattle.expression.specs.Places.{Placement, valueOfWord, valuedOf};
+ghost use lib.ListN.{getD};
+ghost use Rattle.expression.specs.Places.{Placement, valuedOf};
 
-// The value of a wire of the type, from the set of known wires and its word.
-fn value_wire(known: Wires, words: &[u32], asked: u8, wire: usize) -> Value
-    requires { ⌜ (wire < 64) × (wire < length (now words)) ⌝ }
-    ensures { λ r. ⌜ r ≡ valueOfWord (member (known .bits) wire) (typeOfByte asked) (getD (now (words .entry)) wire 0) ⌝ }
-{
-    if known.has(wire) {
-        let datum = data::datum_of(asked, words[wire]);
-        return Value::Known(datum);
-    }
-    Value::Unknown
-}
-
-// The value of a constant, a wire or an input, kinds 0 to 3.
-fn value_leaf(
+// The value of the expression at `at`, of which the type byte `asked` is asked and whose first cell has the number `cell`. One
+// without operands is valued without a call of its own: these are half of all.
+pub fn value_expression(
     sheet: &[u8],
-    input: &[u8],
-    memory: &[u8],
+    input: &&[u8],
+    memory: &&[u8],
     known: Wires,
-    words: &[u32],
+    words: &[u32; 64],
     level: usize,
     asked: u8,
     at: usize,
     cell: usize,
     fresh: bool,
 ) -> Valued
-    requires { ⌜ Placement (now sheet) (now input) (now memory) (now words) (known .bits) level asked at cell ⌝ }
-    requires { ⌜ getD (now sheet) at 0 < 4 ⌝ }
-    ensures { λ r. ⌜ ((p : Placement (now (sheet .entry)) (now (input .entry)) (now (memory .entry)) (now (words .entry))
+    requires { ⌜ Placement (now sheet) (now (now input)) (now (now memory)) (now words) (known .bits) level asked at cell ⌝ }
+    ensures { λ r. ⌜ ((p : Placement (now (sheet .entry)) (now (now (input .entry))) (now (now (memory .entry))) (now (words .entry))
         (known .bits) level asked at cell) → r ≡ valuedOf p fresh) ⌝ }
 {
-    let kind = sheet[at];
-    let body = bodies::body_at(sheet, at);
-    let next = at + 1 + kinds::body(kind);
-    if kind < 2 {
-        let datum = data::datum_of(asked, body);
-        return Valued {
-            value: Value::Known(datum),
-            next,
-            cell,
-        };
+    if sheet[at] < 4 {
+        return leaf::value_leaf(sheet, input, known, words, asked, at, cell);
     }
-    let named = body as usize;
-    if kind == 2 {
-        return Valued {
-            value: value_wire(known, words, asked, named),
-            next,
-            cell,
-        };
-    }
-    let datum = rows::entry_at(input, named, asked);
-    Valued {
-        value: Value::Known(datum),
-        next,
+    value_by_kind(
+        sheet,
+        input,
+        memory,
+        known,
+        words,
+        level,
+        asked,
+        at,
         cell,
-    }
+        fresh,
+    )
 }
 
 // The value of an operation on one or two operands, kinds 4 to 11.
 fn value_operation(
     sheet: &[u8],
-    input: &[u8],
-    memory: &[u8],
+    input: &&[u8],
+    memory: &&[u8],
     known: Wires,
-    words: &[u32],
+    words: &[u32; 64],
     level: usize,
     asked: u8,
     at: usize,
     cell: usize,
     fresh: bool,
 ) -> Valued
-    requires { ⌜ Placement (now sheet) (now input) (now memory) (now words) (known .bits) level asked at cell ⌝ }
+    requires { ⌜ Placement (now sheet) (now (now input)) (now (now memory)) (now words) (known .bits) level asked at cell ⌝ }
     requires { ⌜ (4 ≤ getD (now sheet) at 0) × (getD (now sheet) at 0 < 12) ⌝ }
-    ensures { λ r. ⌜ ((p : Placement (now (sheet .entry)) (now (input .entry)) (now (memory .entry)) (now (words .entry))
+    ensures { λ r. ⌜ ((p : Placement (now (sheet .entry)) (now (now (input .entry))) (now (now (memory .entry))) (now (words .entry))
         (known .bits) level asked at cell) → r ≡ valuedOf p fresh) ⌝ }
 {
     let kind = sheet[at];
-    let types = kinds::operand_types(kind, asked);
+    let operand = kinds::operation_type(kind);
     let below = level - 1;
     let first = at + 1;
     let left = value_expression(
@@ -103,7 +80,7 @@ fn value_operation(
         known,
         words,
         below,
-        types[0],
+        operand,
         first,
         cell,
         fresh,
@@ -123,7 +100,7 @@ fn value_operation(
         known,
         words,
         below,
-        types[1],
+        operand,
         left.next,
         left.cell,
         fresh,
@@ -139,19 +116,19 @@ fn value_operation(
 // The value of an if, kind 12: all three operands are valued.
 fn value_conditional(
     sheet: &[u8],
-    input: &[u8],
-    memory: &[u8],
+    input: &&[u8],
+    memory: &&[u8],
     known: Wires,
-    words: &[u32],
+    words: &[u32; 64],
     level: usize,
     asked: u8,
     at: usize,
     cell: usize,
     fresh: bool,
 ) -> Valued
-    requires { ⌜ Placement (now sheet) (now input) (now memory) (now words) (known .bits) level asked at cell ⌝ }
+    requires { ⌜ Placement (now sheet) (now (now input)) (now (now memory)) (now words) (known .bits) level asked at cell ⌝ }
     requires { ⌜ getD (now sheet) at 0 ≡ 12 ⌝ }
-    ensures { λ r. ⌜ ((p : Placement (now (sheet .entry)) (now (input .entry)) (now (memory .entry)) (now (words .entry))
+    ensures { λ r. ⌜ ((p : Placement (now (sheet .entry)) (now (now (input .entry))) (now (now (memory .entry))) (now (words .entry))
         (known .bits) level asked at cell) → r ≡ valuedOf p fresh) ⌝ }
 {
     let below = level - 1;
@@ -202,22 +179,23 @@ fn value_conditional(
     }
 }
 
-// The value of a present, kind 13: the arm that the condition takes is valued, and any other operand passed over.
+// The value of a present, kind 13: the arm that the condition takes is valued, and any other operand passed over. An arm is seldom
+// a leaf, and goes by its kind at once.
 fn value_present(
     sheet: &[u8],
-    input: &[u8],
-    memory: &[u8],
+    input: &&[u8],
+    memory: &&[u8],
     known: Wires,
-    words: &[u32],
+    words: &[u32; 64],
     level: usize,
     asked: u8,
     at: usize,
     cell: usize,
     fresh: bool,
 ) -> Valued
-    requires { ⌜ Placement (now sheet) (now input) (now memory) (now words) (known .bits) level asked at cell ⌝ }
+    requires { ⌜ Placement (now sheet) (now (now input)) (now (now memory)) (now words) (known .bits) level asked at cell ⌝ }
     requires { ⌜ getD (now sheet) at 0 ≡ 13 ⌝ }
-    ensures { λ r. ⌜ ((p : Placement (now (sheet .entry)) (now (input .entry)) (now (memory .entry)) (now (words .entry))
+    ensures { λ r. ⌜ ((p : Placement (now (sheet .entry)) (now (now (input .entry))) (now (now (memory .entry))) (now (words .entry))
         (known .bits) level asked at cell) → r ≡ valuedOf p fresh) ⌝ }
 {
     let below = level - 1;
@@ -236,7 +214,7 @@ fn value_present(
     );
     let c = condition.value;
     if operations::is_true(c) {
-        let yes = value_expression(
+        let yes = value_by_kind(
             sheet,
             input,
             memory,
@@ -265,7 +243,7 @@ fn value_present(
             cell: no.cell,
         };
     }
-    value_expression(
+    value_by_kind(
         sheet,
         input,
         memory,
@@ -282,19 +260,19 @@ fn value_present(
 // The value of a reset, kind 14: a true condition makes its operand fresh.
 fn value_reset(
     sheet: &[u8],
-    input: &[u8],
-    memory: &[u8],
+    input: &&[u8],
+    memory: &&[u8],
     known: Wires,
-    words: &[u32],
+    words: &[u32; 64],
     level: usize,
     asked: u8,
     at: usize,
     cell: usize,
     fresh: bool,
 ) -> Valued
-    requires { ⌜ Placement (now sheet) (now input) (now memory) (now words) (known .bits) level asked at cell ⌝ }
+    requires { ⌜ Placement (now sheet) (now (now input)) (now (now memory)) (now words) (known .bits) level asked at cell ⌝ }
     requires { ⌜ getD (now sheet) at 0 ≡ 14 ⌝ }
-    ensures { λ r. ⌜ ((p : Placement (now (sheet .entry)) (now (input .entry)) (now (memory .entry)) (now (words .entry))
+    ensures { λ r. ⌜ ((p : Placement (now (sheet .entry)) (now (now (input .entry))) (now (now (memory .entry))) (now (words .entry))
         (known .bits) level asked at cell) → r ≡ valuedOf p fresh) ⌝ }
 {
     let below = level - 1;
@@ -321,7 +299,7 @@ fn value_reset(
         };
     }
     let anew = operations::is_true(c) | fresh;
-    value_expression(
+    value_by_kind(
         sheet,
         input,
         memory,
@@ -338,25 +316,25 @@ fn value_reset(
 // The value of a pre, kinds 15 and 16: its cell, or its constant where fresh; its operand is passed over.
 fn value_pre(
     sheet: &[u8],
-    input: &[u8],
-    memory: &[u8],
+    input: &&[u8],
+    memory: &&[u8],
     known: Wires,
-    words: &[u32],
+    words: &[u32; 64],
     level: usize,
     asked: u8,
     at: usize,
     cell: usize,
     fresh: bool,
 ) -> Valued
-    requires { ⌜ Placement (now sheet) (now input) (now memory) (now words) (known .bits) level asked at cell ⌝ }
+    requires { ⌜ Placement (now sheet) (now (now input)) (now (now memory)) (now words) (known .bits) level asked at cell ⌝ }
     requires { ⌜ (15 ≤ getD (now sheet) at 0) × (getD (now sheet) at 0 < 17) ⌝ }
-    ensures { λ r. ⌜ ((p : Placement (now (sheet .entry)) (now (input .entry)) (now (memory .entry)) (now (words .entry))
+    ensures { λ r. ⌜ ((p : Placement (now (sheet .entry)) (now (now (input .entry))) (now (now (memory .entry))) (now (words .entry))
         (known .bits) level asked at cell) → r ≡ valuedOf p fresh) ⌝ }
 {
     let first = at + 1 + kinds::body(sheet[at]);
     let inner = cell + 1;
     let constant = data::datum_of(asked, bodies::body_at(sheet, at));
-    let kept = memory::cell_at(memory, cell, asked);
+    let kept = memory::cell_at(*memory, cell, asked);
     let datum = operations::held(fresh, constant, kept);
     let operand = skip::skip(sheet, first, inner);
     Valued {
@@ -369,25 +347,25 @@ fn value_pre(
 // The value of an fby, kind 17: its left operand's where fresh or not started, and else its cell.
 fn value_fby(
     sheet: &[u8],
-    input: &[u8],
-    memory: &[u8],
+    input: &&[u8],
+    memory: &&[u8],
     known: Wires,
-    words: &[u32],
+    words: &[u32; 64],
     level: usize,
     asked: u8,
     at: usize,
     cell: usize,
     fresh: bool,
 ) -> Valued
-    requires { ⌜ Placement (now sheet) (now input) (now memory) (now words) (known .bits) level asked at cell ⌝ }
+    requires { ⌜ Placement (now sheet) (now (now input)) (now (now memory)) (now words) (known .bits) level asked at cell ⌝ }
     requires { ⌜ getD (now sheet) at 0 ≡ 17 ⌝ }
-    ensures { λ r. ⌜ ((p : Placement (now (sheet .entry)) (now (input .entry)) (now (memory .entry)) (now (words .entry))
+    ensures { λ r. ⌜ ((p : Placement (now (sheet .entry)) (now (now (input .entry))) (now (now (memory .entry))) (now (words .entry))
         (known .bits) level asked at cell) → r ≡ valuedOf p fresh) ⌝ }
 {
     let below = level - 1;
     let first = at + 1;
     let inner = cell + 1;
-    let kept = memory::cell_at(memory, cell, asked);
+    let kept = memory::cell_at(*memory, cell, asked);
     let seen = operations::started(fresh, kept);
     let Cell::Started(datum) = seen else {
         let left = value_expression(
@@ -419,36 +397,25 @@ fn value_fby(
     }
 }
 
-// The value of the expression at `at`, of which the type byte `asked` is asked and whose first cell has the number `cell`.
-pub fn value_expression(
+// The value of an expression by its kind.
+fn value_by_kind(
     sheet: &[u8],
-    input: &[u8],
-    memory: &[u8],
+    input: &&[u8],
+    memory: &&[u8],
     known: Wires,
-    words: &[u32],
+    words: &[u32; 64],
     level: usize,
     asked: u8,
     at: usize,
     cell: usize,
     fresh: bool,
 ) -> Valued
-    requires { ⌜ Placement (now sheet) (now input) (now memory) (now words) (known .bits) level asked at cell ⌝ }
-    ensures { λ r. ⌜ ((p : Placement (now (sheet .entry)) (now (input .entry)) (now (memory .entry)) (now (words .entry))
+    requires { ⌜ Placement (now sheet) (now (now input)) (now (now memory)) (now words) (known .bits) level asked at cell ⌝ }
+    ensures { λ r. ⌜ ((p : Placement (now (sheet .entry)) (now (now (input .entry))) (now (now (memory .entry))) (now (words .entry))
         (known .bits) level asked at cell) → r ≡ valuedOf p fresh) ⌝ }
 {
     match sheet[at] {
-        0..=3 => value_leaf(
-            sheet,
-            input,
-            memory,
-            known,
-            words,
-            level,
-            asked,
-            at,
-            cell,
-            fresh,
-        ),
+        0..=3 => leaf::value_leaf(sheet, input, known, words, asked, at, cell),
         4..=11 => value_operation(
             sheet,
             input,

@@ -28,7 +28,7 @@ use Rattle.kernel.specs.declared.Value.{Value}
 use Rattle.kernel.specs.declared.Value.the-variants.{Unknown}
 use Rattle.kernel.specs.declared.InRounds.the-variants.{Refused as RefusedInRounds, Accepted as AcceptedInRounds}
 use Rattle.kernel.specs.declared.Scheduled.the-variants.{Refused as RefusedScheduled, Accepted as AcceptedScheduled}
-use Rattle.schedule.specs.Orders.{Located, orderedAnswer}
+use Rattle.schedule.specs.Orders.{orderedAnswer}
 use Rattle.schedule.specs.declared.Ordered.the-variants.{Refused as RefusedOrder, Passed as PassedOrder}
 use Rattle.rounds.specs.Running.{Held, unheld, held, Holds}
 use Rattle.rounds.specs.Outputs.{Below, wordsOf, output-words}
@@ -128,11 +128,10 @@ module _ {s memory input output : List ℕ} {inputs wires outputs : ℕ} (l : La
         typed = finished-typed (given .sheet) (given .inputs) (given .memory) (r .wellTyped) (r .validInputs) (r .validMemory);
       }
 
-  -- each output has a word, and the row has room for each
-  pub row-fits : {bits : ℕ} {words : List ℕ} → HoldsFinished bits words
-      → Below (length words) (outputsAt s inputs wires outputs) × (length output ≡ 4 * length (outputsAt s inputs wires outputs))
+  -- each output is one of 64 wires, and the row has room for each
+  pub row-fits : Below 64 (outputsAt s inputs wires outputs) × (length output ≡ 4 * length (outputsAt s inputs wires outputs))
   unfolding Below
-  row-fits h = (rw (← (l .outs)) (λ i m. omega (arith, l .below i m, h .room)), l .row)
+  row-fits = (rw (← (l .outs)) (λ i m. omega (arith, l .below i m, l .running .few)), l .row)
 
   written : {bits : ℕ} {words : List ℕ} → HoldsFinished bits words → Full count (givenFinished given)
       → wordsOf (outputsAt s inputs wires outputs) words ≡ rowBytes (outputRow (given .sheet) (givenFinished given))
@@ -163,20 +162,8 @@ module _ {s memory input output : List ℕ} {inputs wires outputs : ℕ} (l : La
         record { answers = rw (e, made); stores = rw e stores; writes = rw e (writes ∙ written h full) }
 
   -- Along a schedule, where the wires' expressions start at the places.
-  pub record Sited (places firsts : List ℕ) : Type 0 where
-    pub starts : (w : ℕ) → w < count → StartsAt (wiresOf (l .running)) w (getD places w 0) (getD firsts w 0)
-    pub inPlaces : count ≤ length places
-    pub inFirsts : count ≤ length firsts
-
-  abbrev pub located : {places firsts : List ℕ} → Sited places firsts → Located s count places firsts
-  located sited =
-      record {
-        at = firstAt s inputs wires outputs;
-        run = wiresOf (l .running);
-        starts = sited .starts;
-        in-places = sited .inPlaces;
-        in-firsts = sited .inFirsts;
-      }
+  abbrev pub Sited : List ℕ → List ℕ → Type 0
+  Sited places firsts = (w : ℕ) → w < count → StartsAt (wiresOf (l .running)) w (getD places w 0) (getD firsts w 0)
 
   abbrev pub along : {places firsts list words : List ℕ} → Sited places firsts → IsSchedule (given .sheet) list → count ≤ length words
       → Along s memory input (typesAt s inputs wires outputs) places firsts list words
@@ -184,9 +171,7 @@ module _ {s memory input output : List ℕ} {inputs wires outputs : ℕ} (l : La
       record {
         first = firstAt s inputs wires outputs;
         running = l .running;
-        starts = sited .starts;
-        inPlaces = sited .inPlaces;
-        inFirsts = sited .inFirsts;
+        starts = sited;
         wires = λ p m. rw (l .wired) at (h .wires p (omega (arith, h .counted)));
         once = λ p q m k e. h .once p q m (omega (arith, h .counted)) e;
         room = room;

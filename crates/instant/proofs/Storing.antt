@@ -13,7 +13,7 @@ use Rattle.sheet.specs.Memory.{memoryBytes}
 use Rattle.sheet.specs.Laws.Readings.{forms-length, expression-extent, run-extent}
 use Rattle.sheet.specs.Laws.Memory.{pairwise-length, memory-length}
 use Rattle.sheet.specs.declared.Datum.the-variants.{Boolean}
-use Rattle.numbers.specs.Laws.{sets-all}
+use Rattle.numbers.specs.Laws.{sets-all, sets-append}
 use Rattle.sheet_walk.proofs.Locating as Locating
 use Rattle.kernel.specs.Instant.{Environment, under, stored}
 use Rattle.kernel.specs.Instants.{storedCells, nextMemory}
@@ -22,7 +22,6 @@ use Rattle.expression.specs.Places.{CellsStand}
 use Rattle.expression.proofs.Views.{cells-split}
 use Rattle.rounds.proofs.Rounding.{running-stands}
 use Rattle.storing.specs.Advances.{Ready, Advances}
-use Rattle.storing.proofs.Splices.{sets-append}
 use Rattle.storing.proofs.Standing.{cells-past, memory-append, stored-length}
 use Rattle.instant.specs.Along.{wiresOf}
 use Rattle.instant.specs.Settled.{Settled, storedOf}

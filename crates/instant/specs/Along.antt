@@ -26,8 +26,6 @@ pub record Along (s memory input types places firsts list words : List ℕ) : Ty
   pub first : ℕ
   pub running : Running s memory input types first
   pub starts : (w : ℕ) → w < length types → StartsAt (wiresOf running) w (getD places w 0) (getD firsts w 0)
-  pub inPlaces : length types ≤ length places
-  pub inFirsts : length types ≤ length firsts
   pub wires : (p : ℕ) → p < length list → getD list p 0 < length types
   pub once : (p q : ℕ) → p < q → q < length list → getD list p 0 ≡ getD list q 0 → ⊥
   pub room : length types ≤ length words

@@ -5,7 +5,6 @@ use kernel::InRounds;
 use kernel::Scheduled;
 use schedule::Ordered;
 use sheet::Refusal;
-use sheet_walk::starts;
 
 pub mod agreement;
 pub mod pass;
@@ -119,8 +118,14 @@ fn solve_along(
     let types = &sheet[from..to];
     let mut places = [0usize; 64];
     let mut firsts = [0usize; 64];
-    starts::locate(sheet, types.len(), first, &mut places, &mut firsts);
-    match schedule::check_schedule(sheet, schedule, types.len(), &places, &firsts) {
+    match schedule::check_schedule(
+        sheet,
+        schedule,
+        types.len(),
+        first,
+        &mut places,
+        &mut firsts,
+    ) {
         Ordered::Refused { why, place } => Scheduled::Refused { why, place },
         Ordered::Passed => {
             let mut words = [0u32; 64];

@@ -11,10 +11,10 @@ pub fn pass(
     memory: &[u8],
     input: &[u8],
     types: &[u8],
-    places: &[usize],
-    firsts: &[usize],
+    places: &[usize; 64],
+    firsts: &[usize; 64],
     list: &[u8],
-    words: &mut [u32],
+    words: &mut [u32; 64],
 ) -> Wires
     requires { ⌜ Along (now sheet) (now memory) (now input) (now types) (now places) (now firsts) (now list) (now words) ⌝ }
     ensures { λ r. ⌜ ((a : Along (now (sheet .entry)) (now (memory .entry)) (now (input .entry)) (now (types .entry))
@@ -27,8 +27,8 @@ pub fn pass(
         let w = list[p] as usize;
         let v = value::value_expression(
             sheet,
-            input,
-            memory,
+            &input,
+            &memory,
             known,
             words,
             16,

@@ -12,7 +12,7 @@ pub fn store(
     types: &[u8],
     first: usize,
     known: Wires,
-    words: &[u32],
+    words: &[u32; 64],
 )
     requires { ⌜ Settled (now sheet) (now memory) (now input) (now types) first (known .bits) (now words) ⌝ }
     ensures { λ _. ⌜ ((f : Settled (now (sheet .entry)) (now (memory .entry)) (now (input .entry)) (now (types .entry)) first
@@ -24,7 +24,7 @@ pub fn store(
     while w < types.len() {
         let v = advance::advance_expression(
             sheet,
-            input,
+            &input,
             memory,
             known,
             words,

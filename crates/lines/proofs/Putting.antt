@@ -7,18 +7,14 @@ use native.Mathlib.Nat.{add-zero, add-suc, suc-add}
 use native.Mathlib.Numerals.{add-one}
 use lib.ListN.{length, take, drop, getD, set, length-append}
 use lib.Seq.{sets, sets-eq, length-sets, take-suc, take-all, take-at, length-take-le}
+use Rattle.numbers.specs.Laws.{sets-append}
 use Rattle.lines.specs.Buffers.{Puts, Holds}
-
--- two runs of stores, the second where the first ends, are one
-sets-append : (x l : List ℕ) (i : ℕ) (y : List ℕ) → sets l i (x ++ y) ≡ sets (sets l i x) (i + length x) y
-sets-append [] l i y = rw add-zero
-sets-append (a ∷ x) l i y = rw (add-suc, ← suc-add) (sets-append x (set l i a) (suc i) y)
 
 -- one piece, then another at the place past it
 pub then : {before middle after x y : List ℕ} {at next past : ℕ}
     → Puts before at x middle next → Puts middle next y after past → Puts before at (x ++ y) after past
 then {before} {middle} {after} {x} {y} {at} {next} {past} p q = record {
-  placed = q .placed ∙ rw (p .placed, p .passed) (sym (sets-append x before at y));
+  placed = q .placed ∙ rw (p .placed, p .passed) (sym (sets-append x y before at));
   passed = rw length-append (omega (arith, p .passed, q .passed));
 }
 
@@ -26,7 +22,7 @@ then {before} {middle} {after} {x} {y} {at} {next} {past} p q = record {
 pub more : (l : List ℕ) (at : ℕ) (text after : List ℕ) (i : ℕ) → i < length text → after ≡ sets l at (take i text)
     → set after (at + i) (getD text i 0) ≡ sets l at (take (i + 1) text)
 more l at text after i h e =
-    rw (e, add-one, take-suc text i 0 h, sets-append (take i text) l at (getD text i 0 ∷ []), length-take-le i text (omega arith))
+    rw (e, add-one, take-suc text i 0 h, sets-append (take i text) (getD text i 0 ∷ []) l at, length-take-le i text (omega arith))
 
 pub all : (l : List ℕ) (at : ℕ) (text after : List ℕ) (i : ℕ) → length text ≤ i → i ≤ length text → after ≡ sets l at (take i text)
     → Puts l at text after (at + i)

@@ -65,6 +65,12 @@ sets-in (a ∷ vs) l i zero h g =
 sets-in (a ∷ vs) l i (suc j) h g =
     rw (add-suc, ← suc-add) (sets-in vs (set l i a) (suc i) j (simp length-set (omega arith)) (omega arith))
 
+-- two runs of stores, the second where the first ends, are one
+pub sets-append : (vs ws l : List ℕ) (i : ℕ) → sets l i (vs ++ ws) ≡ sets (sets l i vs) (i + length vs) ws
+sets-append [] ws l i = rw add-zero
+sets-append (v ∷ vs) ws l i =
+    let e : i + suc (length vs) ≡ suc i + length vs = omega arith in rw e (sets-append vs ws (set l i v) (suc i))
+
 -- a splice of the whole list
 pub sets-all : (vs l : List ℕ) → length vs ≡ length l → sets l 0 vs ≡ vs
 sets-all vs l e =

@@ -18,7 +18,7 @@ pub struct Finished {
 }
 
 // Puts the value of a wire: a known one into the set, and its word into the words.
-pub fn put_value(worth: Value, wire: usize, known: Wires, words: &mut [u32]) -> Wires
+pub fn put_value(worth: Value, wire: usize, known: Wires, words: &mut [u32; 64]) -> Wires
     requires { ⌜ (wire < 64) × (wire < length (now words)) ⌝ }
     ensures { λ r. ⌜ Put wire (known .bits) (now (words .entry)) worth (r .bits) (now (words .exit)) ⌝ }
 {
@@ -39,7 +39,7 @@ fn round(
     types: &[u8],
     first: usize,
     known: Wires,
-    words: &mut [u32],
+    words: &mut [u32; 64],
 ) -> Wires
     requires { ⌜ Before (now sheet) (now memory) (now input) (now types) first (known .bits) (now words) ⌝ }
     ensures { λ r. ⌜ ((b : Before (now (sheet .entry)) (now (memory .entry)) (now (input .entry)) (now (types .entry)) first (known .bits)
@@ -52,8 +52,8 @@ fn round(
     while w < types.len() {
         let v = value::value_expression(
             sheet,
-            input,
-            memory,
+            &input,
+            &memory,
             known,
             words,
             16,
@@ -78,7 +78,7 @@ pub fn finish(
     input: &[u8],
     types: &[u8],
     first: usize,
-    words: &mut [u32],
+    words: &mut [u32; 64],
 ) -> Finished
     requires { ⌜ Running (now sheet) (now memory) (now input) (now types) first × (length (now types) ≤ length (now words)) ⌝ }
     ensures { λ r. ⌜ ((run : Running (now (sheet .entry)) (now (memory .entry)) (now (input .entry)) (now (types .entry)) first)
@@ -103,8 +103,8 @@ pub fn finish(
 }
 
 // Writes the word of each output's wire into its entry of the row.
-pub fn write_row(outputs: &[u8], words: &[u32], row: &mut [u8])
-    requires { ⌜ Below (length (now words)) (now outputs) × (length (now row) ≡ 4 * length (now outputs)) ⌝ }
+pub fn write_row(outputs: &[u8], words: &[u32; 64], row: &mut [u8])
+    requires { ⌜ Below 64 (now outputs) × (length (now row) ≡ 4 * length (now outputs)) ⌝ }
     ensures { λ _. ⌜ now (row .exit) ≡ wordsOf (now (outputs .entry)) (now (words .entry)) ⌝ }
 {
     let mut i = 0;

@@ -1,48 +1,78 @@
 -- How the code's turns along a list go into the checks 18 and 19, and its answers into the outcome.
-use Prim.Native.Nat.{ℕ, zero, suc, _+_, _≤_, _<_}
+use Prim.Native.Nat.{ℕ, _+_, _≤_, _<_}
 use mathlib.Core.Path.{_≡_, refl, sym, ap, _∙_}
-use mathlib.Core.Bool.{true, false, not, _||_, or-false}
+use mathlib.Core.Bool.{Bool, true, false, not, _||_, or-false, or-true, true≢false}
 use mathlib.Core.List.{List, [], _∷_}
 use native.Mathlib.Numerals.{add-one}
 use native.Mathlib.Omega.{arith}
 use lib.Dec.{eqb, ltb}
-use lib.ListN.{length, getD, take}
+use lib.ListN.{length, take}
 use lib.Seq.{take-suc}
-use borrow.Author.Tests.{eq-eqb, ne-eqb, lt-ltb, le-ltb, ltb-true, not-false}
-use Rattle.sheet.specs.Expressions.{Expression, constant}
+use borrow.Author.Tests.{eq-eqb, ne-eqb, eqb-true, lt-ltb, le-ltb, ltb-true, not-false}
 use Rattle.sheet.specs.Outcomes.{Outcome, result, lowest, unlessLength, unlessAny}
 use Rattle.sheet.specs.Sheets.{Sheet}
 use Rattle.sheet.specs.Laws.Lowest.{lowest-first}
 use Rattle.sheet.specs.Laws.Readings.{run-extent}
-use Rattle.sheet.specs.declared.Datum.the-variants.{Boolean}
+use Rattle.sheet.specs.declared.Refusal.{Refusal}
 use Rattle.sheet.specs.declared.Refusal.the-variants.{ScheduleLength, ScheduleEntry, ScheduleOrder}
-use Rattle.wires.specs.Sets.{member}
+use Rattle.sheet_walk.specs.Starts.{WiresRead}
+use Rattle.wires.specs.Sets.{member, TestsWithin}
 use Rattle.kernel.specs.Lists.{among, allAmong}
-use Rattle.kernel.specs.Laws.Lists.{neither, among-append}
-use Rattle.kernel.specs.Reads.{wiresRead}
+use Rattle.kernel.specs.Laws.Lists.{both, neither, among-append}
 use Rattle.kernel.specs.Instants.{readsAt}
 use Rattle.kernel.specs.Schedules.{entryAt, notNew, tooEarly, scheduleOf}
-use Rattle.schedule.specs.Reads.{allIn, ReadsAt}
-use Rattle.schedule.specs.Orders.{Located, orderedAnswer}
+use Rattle.schedule.specs.Reads.{HoldsJust}
+use Rattle.schedule.specs.Orders.{orderedAnswer}
 use Rattle.schedule.specs.declared.Ordered.the-variants.{Refused, Passed}
-use Rattle.schedule.specs.declared.reads.ReadsFound.{ReadsFound}
+
+-- a list is among another where each of its wires is
+all-among : (ws ys : List ℕ) → ((k : ℕ) → among k ws ≡ true → among k ys ≡ true) → allAmong ws ys ≡ true
+unfolding among allAmong
+all-among [] ys h = refl
+all-among (w ∷ ws) ys h =
+    let rest : allAmong ws ys ≡ true = all-among ws ys (λ k e. h k (ap (λ b. eqb k w || b) e ∙ or-true (eqb k w))) in
+    let first : among w ys ≡ true = h w (rw (eq-eqb w w refl)) in
+    rw (first) rest
+
+each-among : (ws ys : List ℕ) → allAmong ws ys ≡ true → (k : ℕ) → among k ws ≡ true → among k ys ≡ true
+unfolding among allAmong
+each-among [] ys e k i = absurd (true≢false (sym i))
+each-among (w ∷ ws) ys e k i =
+    let (first, rest) = both (among w ys) (allAmong ws ys) e in go (eqb k w) refl first (each-among ws ys rest k) i
+  where
+    go : (t : Bool) → eqb k w ≡ t → among w ys ≡ true → (among k ws ≡ true → among k ys ≡ true) → (t || among k ws) ≡ true
+        → among k ys ≡ true
+    go true same first rest i = rw (eqb-true k w same) first
+    go false other first rest i = rest i
+
+-- the test of two sets that hold just the wires of two lists is the test of the lists
+within-among : {n m : ℕ} {ws ys : List ℕ} (r : Bool) → HoldsJust n ws → HoldsJust m ys → TestsWithin n m r → allAmong ws ys ≡ r
+within-among {ws = ws} {ys} true inner outer test =
+    all-among ws ys (λ k e. sym (outer .same k) ∙ test .all refl k (inner .same k ∙ e))
+within-among {n} {m} {ws} {ys} false inner outer test = go (allAmong ws ys) refl
+  where
+    go : (t : Bool) → allAmong ws ys ≡ t → t ≡ false
+    go false e = refl
+    go true e = sym (test .only (λ k i. outer .same k ∙ each-among ws ys e k (sym (inner .same k) ∙ i)))
 
 -- the set holds just the entries before a position
 pub record Holds (list : List ℕ) (p bits : ℕ) : Type 0 where
-  pub same : (w : ℕ) → member bits w ≡ among w (take p list)
+  pub just : HoldsJust bits (take p list)
 
 module _ (list : List ℕ) where
   pub none-named : {bits : ℕ} → ((w : ℕ) → member bits w ≡ false) → Holds list 0 bits
   unfolding among
-  none-named empty = record { same = empty }
+  none-named empty = record { just = record { same = empty } }
 
   pub one-more-named : {p bits more : ℕ} → p < length list → Holds list p bits
       → ((w : ℕ) → member more w ≡ (member bits w || eqb w (entryAt list p))) → Holds list (p + 1) more
   unfolding among
   one-more-named {p} inside holds added =
       record {
-        same = λ w. rw (add-one, take-suc list p 0 inside, among-append w (take p list) (entryAt list p ∷ []), or-false)
-            (added w ∙ ap (λ b. b || eqb w (entryAt list p)) (holds .same w));
+        just = record {
+          same = λ w. rw (add-one, take-suc list p 0 inside, among-append w (take p list) (entryAt list p ∷ []), or-false)
+              (added w ∙ ap (λ b. b || eqb w (entryAt list p)) (holds .just .same w));
+        };
       }
 
   -- check 18 at a position
@@ -52,7 +82,7 @@ module _ (list : List ℕ) where
 
   pub named : (n p : ℕ) {bits : ℕ} → entryAt list p < n → Holds list p bits → notNew list n p ≡ member bits (entryAt list p)
   unfolding notNew
-  named n p h holds = rw (lt-ltb (entryAt list p) n h) (sym (holds .same (entryAt list p)))
+  named n p h holds = rw (lt-ltb (entryAt list p) n h) (sym (holds .just .same (entryAt list p)))
 
   -- where it refuses none, all entries are wires
   pub all-wires : (n : ℕ) → n ≤ lowest (notNew list n) n → (p : ℕ) → p < n → entryAt list p < n
@@ -62,59 +92,28 @@ module _ (list : List ℕ) where
       let (below, _) = neither (not (ltb (entryAt list p) n)) (among (entryAt list p) (take p list)) new in
       ltb-true _ _ (not-false (ltb (entryAt list p) n) below)
 
-  all-named : (p bits : ℕ) → Holds list p bits → (ws : List ℕ) → allIn bits ws ≡ allAmong ws (take p list)
-  unfolding allIn allAmong
-  all-named p bits holds [] = refl
-  all-named p bits holds (w ∷ ws) = rw (holds .same w, all-named p bits holds ws)
-
-reads-of-tree : (trees : List Expression) (w : ℕ) → readsAt trees w ≡ wiresRead (getD trees w (constant (Boolean false)))
-unfolding readsAt wiresRead
-reads-of-tree [] w = refl
-reads-of-tree (e ∷ es) zero = refl
-reads-of-tree (e ∷ es) (suc w) = reads-of-tree es w
-
-module _ {s places firsts : List ℕ} {wires : ℕ} (l : Located s wires places firsts) where
-  -- a wire's expression reads where it was located
-  abbrev pub wire-reads : (w : ℕ) → wires ≤ 64 → w < wires → ReadsAt s 16 (getD places w 0) (getD firsts w 0)
-  wire-reads w few h =
-      let here = l .starts w h in
-      record {
-        inputs = l .run .inputs;
-        wires = l .run .types;
-        asked = getD (l .run .types) w 0;
-        tree = getD (l .run .trees) w (constant (Boolean false));
-        next = here .next;
-        count = here .count;
-        few = omega (arith, l .run .sized);
-        reads = here .reads;
-      }
-
-  -- check 19 at a position, by what was found of its wire
-  pub early : (list : List ℕ) (p : ℕ) {bits : ℕ} (found : ReadsFound) → wires ≤ 64 → entryAt list p < wires → Holds list p bits
-      → ((q : ReadsAt s 16 (getD places (entryAt list p) 0) (getD firsts (entryAt list p) 0))
-      → found ≡ record { only = allIn bits (wiresRead (q .tree)); next = q .next; cell = q .count })
-      → tooEarly list (readsAt (l .run .trees)) p ≡ not (found .only)
+  -- check 19 at a position, by the set of the wires that its wire reads
+  pub early : (readsOf : ℕ → List ℕ) (p : ℕ) {bits read : ℕ} {answer : Bool} → Holds list p bits
+      → HoldsJust read (readsOf (entryAt list p)) → TestsWithin read bits answer → tooEarly list readsOf p ≡ not answer
   unfolding tooEarly
-  early list p {bits} found few h holds read =
-      let w = entryAt list p in
-      rw (read (wire-reads w few h), all-named list p bits holds)
-      (ap (λ ws. not (allAmong ws (take p list))) (reads-of-tree (l .run .trees) w))
+  early readsOf p {answer = answer} holds reads test = ap not (within-among answer reads (holds .just) test)
 
-  -- the outcome by the count of the wires and the expressions that were located
+module _ {s : List ℕ} {wires at : ℕ} (run : WiresRead s wires at) where
+  -- the outcome by the count of the wires and the expressions that read
   abbrev outcome : List ℕ → Outcome (List ℕ)
   outcome list =
       unlessLength ScheduleLength (length list) wires
       (unlessAny ScheduleEntry (notNew list wires) wires
-      (unlessAny ScheduleOrder (tooEarly list (readsAt (l .run .trees))) wires
+      (unlessAny ScheduleOrder (tooEarly list (readsAt (run .trees))) wires
       (result list)))
 
   -- the code's answers
-  module _ (sheet : Sheet) (list : List ℕ) (are : sheet .expressions ≡ l .run .trees) where
+  module _ (sheet : Sheet) (list : List ℕ) (are : sheet .expressions ≡ run .trees) where
     outcome-is : scheduleOf sheet list ≡ outcome list
     unfolding scheduleOf
     outcome-is =
-        let sized = run-extent (l .run .inputs) (l .run .types) s 16 (l .run .types) (l .at) 0 (l .run .reads) .sized in
-        rw (are, sized ∙ l .run .sized)
+        let sized = run-extent (run .inputs) (run .types) s 16 (run .types) at 0 (run .reads) .sized in
+        rw (are, sized ∙ run .sized)
 
     pub refused-17 : (length list ≡ wires → ⊥) → Refused ScheduleLength 0 ≡ orderedAnswer (scheduleOf sheet list)
     refused-17 other = rw (outcome-is, ne-eqb (length list) wires other)
@@ -123,10 +122,14 @@ module _ {s places firsts : List ℕ} {wires : ℕ} (l : Located s wires places 
       pub refused-18 : entry < wires → Refused ScheduleEntry entry ≡ orderedAnswer (scheduleOf sheet list)
       refused-18 below = rw (outcome-is, eq-eqb (length list) wires sized, ← first, lt-ltb entry wires below)
 
-      module _ (none : wires ≤ entry) {early : ℕ} (low : early ≡ lowest (tooEarly list (readsAt (l .run .trees))) wires) where
+      module _ (none : wires ≤ entry) {early : ℕ} (low : early ≡ lowest (tooEarly list (readsAt (run .trees))) wires) where
         pub refused-19 : early < wires → Refused ScheduleOrder early ≡ orderedAnswer (scheduleOf sheet list)
         refused-19 below =
             rw (outcome-is, eq-eqb (length list) wires sized, ← first, le-ltb entry wires none, ← low, lt-ltb early wires below)
 
         pub passed : wires ≤ early → Passed ≡ orderedAnswer (scheduleOf sheet list)
         passed past = rw (outcome-is, eq-eqb (length list) wires sized, ← first, le-ltb entry wires none, ← low, le-ltb early wires past)
+
+-- a refusal is not a pass
+pub not-passed : {A : Type 0} {why : Refusal} {place : ℕ} → Refused why place ≡ Passed → A
+not-passed e = absurd (let z : _≡_ {A = ℕ} 0 1 = cc in omega arith)

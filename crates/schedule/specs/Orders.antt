@@ -1,19 +1,17 @@
--- What the checks of a schedule are given and answer: where the wires' expressions start, and the outcome as an answer.
-use Prim.Native.Nat.{ℕ, _≤_, _<_}
+-- What the checks of a schedule note of the wires' expressions, and their outcome as an answer.
+use Prim.Native.Nat.{ℕ}
 use mathlib.Core.List.{List}
-use lib.ListN.{length, getD}
 use Rattle.sheet.specs.Outcomes.{Outcome, refusal, result}
 use Rattle.sheet_walk.specs.Starts.{WiresRead, StartsAt}
+use Rattle.kernel.specs.Instants.{readsAt}
+use Rattle.schedule.specs.Reads.{HoldsJust}
 use Rattle.schedule.specs.declared.Ordered.{Ordered}
 use Rattle.schedule.specs.declared.Ordered.the-variants.{Refused, Passed}
 
--- the wires' expressions read one behind the other, and start at the places, each behind the cells before its first
-pub record Located (s : List ℕ) (wires : ℕ) (places firsts : List ℕ) : Type 0 where
-  pub at : ℕ
-  pub run : WiresRead s wires at
-  pub starts : (w : ℕ) → w < wires → StartsAt run w (getD places w 0) (getD firsts w 0)
-  pub in-places : wires ≤ length places
-  pub in-firsts : wires ≤ length firsts
+-- of wire w are noted the place where its expression starts, the number of its first cell, and as a set the wires that it reads
+pub record Noted {s : List ℕ} {wires at : ℕ} (run : WiresRead s wires at) (w place cell bits : ℕ) : Type 0 where
+  pub starts : StartsAt run w place cell
+  pub reads : HoldsJust bits (readsAt (run .trees) w)
 
 -- a refusal with its place, or that the list passed
 abbrev pub orderedAnswer : Outcome (List ℕ) → Ordered

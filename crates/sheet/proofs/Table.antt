@@ -35,6 +35,17 @@ operands-are t =
     every-kind (λ k. take (countOf k) (typed t (firstOf k) ∷ typed t (laterOf k) ∷ typed t (laterOf k) ∷ []) ≡ operandsOf k t)
     (refl ▸ refl ▸ refl ▸ refl ▸ refl ▸ refl ▸ refl ▸ refl ▸ refl ▸ refl ▸ refl ▸ refl ▸ refl ▸ refl ▸ refl ▸ refl ▸ refl ▸ refl ▸ end)
 
+-- and where they are an operation's, the first is that of all
+pub operation-operands : (k : ℕ) → k < 18 → 4 ≤ k → k < 12 → (t : ℕ) → take (countOf k) (firstOf k ∷ firstOf k ∷ []) ≡ operandsOf k t
+unfolding operandsOf
+operation-operands =
+    every-kind (λ k. 4 ≤ k → k < 12 → (t : ℕ) → take (countOf k) (firstOf k ∷ firstOf k ∷ []) ≡ operandsOf k t)
+    ((λ low high. absurd (omega arith)) ▸ (λ low high. absurd (omega arith)) ▸ (λ low high. absurd (omega arith)) ▸ (λ low high. absurd (omega arith))
+    ▸ (λ low high t. refl) ▸ (λ low high t. refl) ▸ (λ low high t. refl) ▸ (λ low high t. refl)
+    ▸ (λ low high t. refl) ▸ (λ low high t. refl) ▸ (λ low high t. refl) ▸ (λ low high t. refl)
+    ▸ (λ low high. absurd (omega arith)) ▸ (λ low high. absurd (omega arith)) ▸ (λ low high. absurd (omega arith))
+    ▸ (λ low high. absurd (omega arith)) ▸ (λ low high. absurd (omega arith)) ▸ (λ low high. absurd (omega arith)) ▸ end)
+
 -- two columns are the same up to row n
 unfoldable pub sameColumn : (ℕ → ℕ) → (ℕ → ℕ) → ℕ → Bool
 sameColumn f g zero = true

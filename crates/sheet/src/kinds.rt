@@ -1,7 +1,8 @@
 // The table of kinds, a column to a number. It rests on nothing; specs/Kinds.antt has the same
 // table, a row to a kind.
 ghost use mathlib.Core.Path.{_≡_};
-ghost use Prim.Native.Nat.{_<_};
+ghost use Prim.Native.Nat.{ℕ, _≤_, _<_};
+ghost use mathlib.Core.List.{[], _∷_};
 ghost use lib.ListN.{take};
 ghost use Rattle.sheet.specs.Kinds.{bodyOf, cellsOf, countOf, ownTypeOf, typed, operandsOf, limitOf, foundOf, digitOf};
 
@@ -81,6 +82,14 @@ pub fn operand_types(kind: u8, asked: u8) -> [u8; 3]
     let first = typed_as(digit(FIRST, kind), asked);
     let later = typed_as(digit(LATER, kind), asked);
     [first, later, later]
+}
+
+// The type asked of every operand of an operation, kinds 4 to 11, whatever is asked of the whole.
+pub fn operation_type(kind: u8) -> u8
+    requires { ⌜ (4 ≤ kind) × (kind < 12) ⌝ }
+    ensures { λ r. ⌜ ((asked : ℕ) → take (countOf kind) (r ∷ r ∷ []) ≡ operandsOf kind asked) ⌝ }
+{
+    digit(FIRST, kind)
 }
 
 // What a body of one byte stays below: the count of the wires or inputs, of which it names one, or of the two Booleans.

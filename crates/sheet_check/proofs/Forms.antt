@@ -10,6 +10,7 @@ use lib.Dec.{ltb}
 use lib.ListN.{length, getD, set, drop, length-map, drop-of-length-le, List·getD-eq-default}
 use lib.Seq.{sets, drop-cons}
 use borrow.Author.Tests.{ltb-true, ltb-false, eq-eqb, ne-eqb}
+use Rattle.numbers.specs.Laws.{sets-append}
 use Rattle.sheet.specs.Data.{ValueType, boolean, number, typeOf, typeOfByte, datumOf}
 use Rattle.sheet.specs.Expressions.{Expression, CellForm, cellForms}
 use Rattle.sheet.specs.Kinds.{cellsOf, bodyOf, operandsOf}
@@ -26,6 +27,7 @@ use Rattle.sheet.specs.declared.Refusal.{Refusal}
 use Rattle.sheet.specs.declared.Read.the-variants.{Refused, Got}
 use Rattle.sheet.specs.declared.Checked.the-variants.{Refused as CheckRefused}
 use Rattle.sheet_check.specs.Forms.{Types, Recorded}
+use Rattle.sheet_check.proofs.Steps.{by-operands}
 
 -- Type bytes: of the wires, and of operands where a type byte is asked of the whole.
 pub section-types : {s : List ℕ} {at fewest excess n k : ℕ} → SectionGood s at fewest excess 2 n k → Types (before s n k)
@@ -83,12 +85,6 @@ module _ (k t b : ℕ) (l : t < 2) where
 
   pub own-pre : (cellsOf k ≡ 0 → ⊥) → (bodyOf k ≡ 0 → ⊥) → t ∷ [] ≡ ownBytes
   own-pre some body = simp (ne-eqb _ _ some, ne-eqb _ _ body, datum-type, type-back t l, add-zero)
-
--- stores one after the other
-sets-append : (vs ws l : List ℕ) (i : ℕ) → sets l i (vs ++ ws) ≡ sets (sets l i vs) (i + length vs) ws
-sets-append [] ws l i = rw add-zero
-sets-append (v ∷ vs) ws l i =
-    let e : i + suc (length vs) ≡ suc i + length vs = omega arith in rw e (sets-append vs ws (set l i v) (suc i))
 
 recorded-append : (fs gs : List CellForm) (l : List ℕ) (c : ℕ)
     → sets l c (map formByte (fs ++ gs)) ≡ sets (sets l c (map formByte fs)) (c + length fs) (map formByte gs)
@@ -165,6 +161,31 @@ whole-recorded inputs wires s (suc l) t at c {n} {k} {forms} {next} {after} own 
       g .forms (v .operands) m j each
       ∙ rw (forms-are, recorded-append own-forms (formsOf (v .operands)) forms c, cells, h (bodyAt s at));
 }
+
+-- where nothing is asked nothing is read, and no form recorded
+none-asked : (read : ℕ → ℕ → ℕ → Reading Expression) (ts : List ℕ) (at c : ℕ) (forms : List ℕ) → length ts ≡ 0
+    → (Got at c ≡ erased (readEach read ts at c)) × Recorded formsOf (readEach read ts at c) c forms forms
+unfolding readEach formsOf
+none-asked read [] at c forms z = (
+  refl,
+  record {
+    forms = λ es n k e.
+        let no-trees : es ≡ [] = cc in sym (ap (λ fs. sets forms c (map formByte (formsOf fs))) no-trees);
+  },
+)
+none-asked read (t ∷ ts) at c forms z = absurd (omega arith)
+
+-- an expression without operands ends with its own bytes, and its own form is the only one
+pub own-whole : (inputs wires s : List ℕ) (level t at c : ℕ) {n k : ℕ} {forms next : List ℕ} → 1 ≤ level
+    → length (operandsOf (getD s at 0) t) ≡ 0 → ownOf inputs wires s level t at c ≡ Got n k
+    → ((b : ℕ) → next ≡ sets forms c (map formByte (ownForms (getD s at 0) (typeOfByte t) b)))
+    → (Got n k ≡ erased (readExpression inputs wires s level t at c))
+    × Recorded cellForms (readExpression inputs wires s level t at c) c forms next
+own-whole inputs wires s level t at c {n} {k} {forms} {next} levels no-operands own h =
+    let each = none-asked (readExpression inputs wires s (level - 1)) (operandsOf (getD s at 0) t) n k next no-operands in (
+      each .0 ∙ by-operands inputs wires s t at c level levels own,
+      whole-recorded inputs wires s level t at c own h (each .1),
+    )
 
 -- the forms of the run are the sheet's
 pub run-recorded : (s inputs wires outputs : List ℕ) (at : ℕ) {first after : List ℕ}

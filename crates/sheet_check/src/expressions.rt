@@ -130,11 +130,11 @@ fn record_form(kind: u8, asked: u8, cells: usize, forms: &mut [u8])
 }
 
 // One expression for each of the types asked, in order, from `at` on; the first that is refused ends the reading. The forms of
-// their cells are recorded.
+// their cells are recorded. The buffers are behind one more reference, so that a call hands on an address instead of copying a slice.
 pub fn check_each(
-    sheet: &[u8],
-    inputs: &[u8],
-    wires: &[u8],
+    sheet: &&[u8],
+    inputs: &&[u8],
+    wires: &&[u8],
     types: &[u8],
     level: usize,
     at: usize,
@@ -143,10 +143,10 @@ pub fn check_each(
 ) -> Read
     requires { ⌜ Types (now types) ⌝ }
     requires { ⌜ 64 ≤ length (now forms) ⌝ }
-    ensures { λ r. ⌜ r ≡ erased (readEach (readExpression (now (inputs .entry)) (now (wires .entry)) (now (sheet .entry)) level)
-        (now (types .entry)) at cells) ⌝ }
-    ensures { λ _. ⌜ Recorded formsOf (readEach (readExpression (now (inputs .entry)) (now (wires .entry)) (now (sheet .entry)) level)
-        (now (types .entry)) at cells) cells (now (forms .entry)) (now (forms .exit)) ⌝ }
+    ensures { λ r. ⌜ r ≡ erased (readEach (readExpression (now (now (inputs .entry))) (now (now (wires .entry)))
+        (now (now (sheet .entry))) level) (now (types .entry)) at cells) ⌝ }
+    ensures { λ _. ⌜ Recorded formsOf (readEach (readExpression (now (now (inputs .entry))) (now (now (wires .entry)))
+        (now (now (sheet .entry))) level) (now (types .entry)) at cells) cells (now (forms .entry)) (now (forms .exit)) ⌝ }
 {
     let mut next = at;
     let mut count = cells;
@@ -165,9 +165,9 @@ pub fn check_each(
 
 // The expression at `at`: its own bytes, then its operands. The forms of its cells are recorded.
 pub fn check_one(
-    sheet: &[u8],
-    inputs: &[u8],
-    wires: &[u8],
+    sheet: &&[u8],
+    inputs: &&[u8],
+    wires: &&[u8],
     level: usize,
     asked: u8,
     at: usize,
@@ -176,19 +176,22 @@ pub fn check_one(
 ) -> Read
     requires { ⌜ asked < 2 ⌝ }
     requires { ⌜ 64 ≤ length (now forms) ⌝ }
-    ensures { λ r. ⌜ r ≡ erased (readExpression (now (inputs .entry)) (now (wires .entry)) (now (sheet .entry))
+    ensures { λ r. ⌜ r ≡ erased (readExpression (now (now (inputs .entry))) (now (now (wires .entry))) (now (now (sheet .entry)))
         level asked at cells) ⌝ }
-    ensures { λ _. ⌜ Recorded cellForms (readExpression (now (inputs .entry)) (now (wires .entry)) (now (sheet .entry))
+    ensures { λ _. ⌜ Recorded cellForms (readExpression (now (now (inputs .entry))) (now (now (wires .entry))) (now (now (sheet .entry)))
         level asked at cells) cells (now (forms .entry)) (now (forms .exit)) ⌝ }
 {
-    let head = check_own(sheet, inputs, wires, level, asked, at, cells);
+    let head = check_own(*sheet, *inputs, *wires, level, asked, at, cells);
     let Read::Got { next: n, count: k } = head else {
         return head;
     };
     let kind = sheet[at];
     record_form(kind, asked, cells, forms);
-    let types = kinds::operand_types(kind, asked);
     let operands = kinds::operands(kind);
+    if operands == 0 {
+        return head;
+    }
+    let types = kinds::operand_types(kind, asked);
     check_each(
         sheet,
         inputs,

@@ -89,7 +89,8 @@ fn outputs_from(sheet: &[u8], inputs: &[u8], wires: &[u8], at: usize, forms: &mu
     }
 }
 
-// The rest from the expressions on, one for each wire, and nothing behind them.
+// The rest from the expressions on, one for each wire, and nothing behind them. `wires` is copied before it is lent: the prover
+// covers no copy of a slice that is lent.
 fn expressions_from(
     sheet: &[u8],
     inputs: &[u8],
@@ -105,7 +106,8 @@ fn expressions_from(
     ensures { λ _. ⌜ Recorded sheetForms (expressionsFrom (now (sheet .entry)) (now (inputs .entry)) (now (wires .entry))
         (now (outputs .entry)) at) 0 (now (forms .entry)) (now (forms .exit)) ⌝ }
 {
-    match expressions::check_each(sheet, inputs, wires, wires, 16, at, 0, forms) {
+    let types = wires;
+    match expressions::check_each(&sheet, &inputs, &wires, types, 16, at, 0, forms) {
         Read::Refused { why, place } => Checked::Refused { why, place },
         Read::Got { next, count } => {
             if next < sheet.len() {

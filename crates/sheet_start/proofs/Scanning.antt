@@ -8,6 +8,7 @@ use native.Mathlib.Nat.{add-zero}
 use lib.Dec.{eqb}
 use lib.ListN.{length, getD, set, length-append}
 use lib.Seq.{sets}
+use Rattle.numbers.specs.Laws.{sets-append}
 use Rattle.sheet.specs.Data.{typeOfByte}
 use Rattle.sheet.specs.Expressions.{Expression, CellForm, cellForms}
 use Rattle.sheet.specs.Kinds.{bodyOf, cellsOf, operandsOf, foundOf}
@@ -60,13 +61,7 @@ own-length s at l =
     none : Cell → _≡_ {A = ℕ} 0 0
     none c = refl
 
--- stores one after the other
-sets-append : (vs ws l : List ℕ) (i : ℕ) → sets l i (vs ++ ws) ≡ sets (sets l i vs) (i + length vs) ws
-sets-append [] ws l i = rw add-zero
-sets-append (v ∷ vs) ws l i =
-    let e : i + suc (length vs) ≡ suc i + length vs = omega arith in rw e (sets-append vs ws (set l i v) (suc i))
-
--- where a pass has not ended it meets an expression, whose cell has room among `size` bytes, and then the rest
+-- where bytes are still missing among `size` the pass meets an expression, whose cell has room among them, and then the rest
 pub record Meets (s : List ℕ) (at k size : ℕ) (bytes : List ℕ) : Type 0 where
   pub whole : Whole s at
   pub rest : List ℕ
@@ -75,18 +70,13 @@ pub record Meets (s : List ℕ) (at k size : ℕ) (bytes : List ℕ) : Type 0 wh
   pub own : length (ownBytes s at) ≡ 5 * cellsOf (getD s at 0)
   pub room : 5 * k + 5 * cellsOf (getD s at 0) + length rest ≡ size
 
-module _ (s : List ℕ) where
-  pub meets : {at : ℕ} {bytes : List ℕ} (k size : ℕ) → Scan s at bytes → at < length s → 5 * k + length bytes ≡ size
-      → Meets s at k size bytes
-  meets k size (done h) l n = absurd (omega arith)
-  meets {at} k size (more whole rest scan e) l n =
-      let own = own-length s at (whole .kind) in
-      let both = simp length-append at (ap length e) in
-      record { whole = whole; rest = rest; scan = scan; splits = e; own = own; room = omega (arith, own, both) }
-
-  pub scan-end : {at : ℕ} {bytes : List ℕ} → Scan s at bytes → length s ≤ at → bytes ≡ []
-  scan-end (done h) l = refl
-  scan-end (more whole rest scan e) l = absurd (omega (arith, whole .ends))
+pub meets : (s : List ℕ) {at : ℕ} {bytes : List ℕ} (k size : ℕ) → Scan s at bytes → 5 * k < size → 5 * k + length bytes ≡ size
+    → Meets s at k size bytes
+meets s k size (done h) l n = absurd (omega arith)
+meets s {at} k size (more whole rest scan e) l n =
+    let own = own-length s at (whole .kind) in
+    let both = simp length-append at (ap length e) in
+    record { whole = whole; rest = rest; scan = scan; splits = e; own = own; room = omega (arith, own, both) }
 
 -- what is still to be met from `at` on, put from cell k on, makes all the bytes
 pub record Left (s : List ℕ) (at k : ℕ) (memory bytes : List ℕ) (size : ℕ) : Type 0 where
@@ -96,7 +86,7 @@ pub record Left (s : List ℕ) (at k : ℕ) (memory bytes : List ℕ) (size : �
   pub fits : 5 * k + length rest ≡ size
 
 -- one step of the pass: the cell that it meets is put, and the others follow
-pub fill-step : (s memory after bytes : List ℕ) (at k cells body size : ℕ) → at < length s
+pub fill-step : (s memory after bytes : List ℕ) (at k cells body size : ℕ) → 5 * k < size
     → cells ≡ cellsOf (getD s at 0) → body ≡ bodyOf (getD s at 0) → after ≡ sets memory (5 * k) (ownBytes s at)
     → Left s at k memory bytes size → Left s (at + 1 + body) (k + cells) after bytes size
 fill-step s memory after bytes at k cells body size l hc hb ha left =
@@ -108,6 +98,15 @@ fill-step s memory after bytes at k cells body size l hc hb ha left =
       makes = rw (ha, place) (sym (sets-append (ownBytes s at) (m .rest) memory (5 * k)) ∙ rw (← (m .splits)) (left .makes));
       fits = omega (arith, m .room, hc);
     }
+
+-- where no byte is missing any more, all the bytes are there
+pub fill-end : {s : List ℕ} {at k : ℕ} {memory bytes : List ℕ} {size : ℕ} → size ≤ 5 * k → Left s at k memory bytes size
+    → memory ≡ bytes
+fill-end {k = k} {memory} {bytes} {size} full left = go (left .rest) (left .makes) (left .fits)
+  where
+    go : (rest : List ℕ) → sets memory (5 * k) rest ≡ bytes → 5 * k + length rest ≡ size → memory ≡ bytes
+    go [] makes fits = makes
+    go (v ∷ rest) makes fits = absurd (omega arith)
 
 module _ (inputs wires s : List ℕ) where
   -- what was read from `at` on ends at n, and a pass meets its cells on the way

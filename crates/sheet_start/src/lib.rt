@@ -42,7 +42,7 @@ pub fn start(sheet: &[u8], memory: &mut [u8]) -> Started
     }
 }
 
-// Puts every cell that is met from `first` on.
+// Puts every cell that is met from `first` on, and stops with the last: no cell is left in the tail of the sheet behind it.
 fn fill(sheet: &[u8], first: usize, memory: &mut [u8])
     requires { ⌜ Fills (now sheet) first (length (now memory)) ⌝ }
     ensures { λ _. ⌜ ((bytes : List ℕ) → Scan (now (sheet .entry)) first bytes → length bytes ≡ length (now (memory .entry))
@@ -50,7 +50,7 @@ fn fill(sheet: &[u8], first: usize, memory: &mut [u8])
 {
     let mut at = first;
     let mut k = 0;
-    while at < sheet.len() {
+    while 5 * k < memory.len() {
         let kind = sheet[at];
         put_own(sheet, at, memory, k);
         k = k + kinds::cells(kind);

@@ -1,21 +1,16 @@
--- How a turn of `locate` goes on: the wires passed are located, and the expressions of those that are left read.
+-- The wires' expressions one behind the other: where the next one starts, and that those that are left read behind it.
 use Prim.Native.Nat.{ℕ, suc, _+_, _<_}
 use mathlib.Core.Path.{_≡_, refl}
-use mathlib.Core.Logic.{_≢_}
 use mathlib.Core.Bool.{false}
 use mathlib.Core.List.{List, [], _∷_, _++_}
-use native.Mathlib.Numerals.{add-one}
 use native.Mathlib.Omega.{arith}
-use lib.ListN.{length, getD, take, drop, set, length-append}
-use lib.Seq.{drop-cons, take-suc, getD-set-same, getD-set-other}
-use borrow.Author.Count.{below-more}
+use lib.ListN.{length, getD, take, drop, length-append}
+use lib.Seq.{drop-cons, take-suc}
 use Rattle.sheet.specs.Expressions.{Expression, constant, cellForms, cellCount}
 use Rattle.sheet.specs.Readings.{got, readEach, readExpression}
 use Rattle.sheet.specs.Sheets.{formsOf}
-use Rattle.sheet_walk.specs.Skips.{Readable}
 use Rattle.sheet_walk.specs.Starts.{WiresRead, StartsAt}
 use Rattle.sheet.specs.declared.Datum.the-variants.{Boolean}
-use Rattle.sheet_walk.specs.declared.skip.Skipped.{Skipped}
 use Rattle.sheet.specs.Laws.Readings.{run-view, expression-extent, run-extent, forms-length}
 
 abbrev treeAt : List Expression → ℕ → Expression
@@ -61,40 +56,4 @@ turn {s} {wires} {at} run {w} {next} {count} left more =
     record {
       here = record { next = v .next; count = v .count; reads = rw head at (v .first); first = left .counted };
       behind = record { reads = rw tail at (v .rest); counted = omega (arith, extent .counted, left .counted) };
-    }
-
-abbrev pub readable : {s : List ℕ} {wires at : ℕ} {run : WiresRead s wires at} {w next count : ℕ} → StartsAt run w next count
-    → Readable s next count
-readable {run = run} {w} here =
-    record {
-      inputs = run .inputs;
-      wires = run .types;
-      level = 16;
-      asked = getD (run .types) w 0;
-      tree = treeAt (run .trees) w;
-      next = here .next;
-      count = here .count;
-      reads = here .reads;
-    }
-
--- the wires below w are located, and the others are left
-pub record Progress {s : List ℕ} {wires at : ℕ} (run : WiresRead s wires at) (places firsts : List ℕ) (w next count : ℕ) : Type 0 where
-  pub left : Left run w next count
-  pub located : (v : ℕ) → v < w → StartsAt run v (getD places v 0) (getD firsts v 0)
-
-pub progress : {s : List ℕ} {wires at : ℕ} (run : WiresRead s wires at) {places firsts : List ℕ} {w next count : ℕ} (past : Skipped)
-    → Progress run places firsts w next count → w < wires → w < length places → w < length firsts
-    → ((p : Readable s next count) → past ≡ record { next = p .next; cell = p .count })
-    → Progress run (set places w next) (set firsts w count) (w + 1) (past .next) (past .cell)
-progress run {places} {firsts} {w} {next} {count} past before more in-places in-firsts skipped =
-    let t = turn run (before .left) more in
-    let e = skipped (readable (t .here)) in
-    let stored : StartsAt run w (getD (set places w next) w 0) (getD (set firsts w count) w 0) =
-    rw (getD-set-same places w next 0 in-places, getD-set-same firsts w count 0 in-firsts) (t .here) in
-    let kept : (v : ℕ) → v < w → StartsAt run v (getD (set places w next) v 0) (getD (set firsts w count) v 0) =
-    λ v l. let other : v ≢ w = λ q. omega arith in
-    rw (getD-set-other places w v next 0 other, getD-set-other firsts w v count 0 other) (before .located v l) in
-    record {
-      left = rw (add-one, e) (t .behind);
-      located = below-more (λ v. StartsAt run v (getD (set places w next) v 0) (getD (set firsts w count) v 0)) w kept stored;
     }

@@ -1,4 +1,3 @@
-// The walks over the expressions of a sheet that passes the check: past one of them, and to where each of them starts.
+// The walk past one expression of a sheet that passes the check; specs/Starts.antt says where the wires' expressions start.
 // Rests on `sheet` for the table of kinds.
 pub mod skip;
-pub mod starts;

@@ -23,6 +23,7 @@ use Rattle.kernel.specs.Operations.{unaryOf, binaryOf, unaryValue, binaryValue}
 use Rattle.kernel.specs.Instant.{runs, chosen, value, stored, cellAt, heldOr, knownOr}
 use Rattle.kernel.specs.declared.Value.{Value}
 use Rattle.kernel.specs.declared.Value.the-variants.{Unknown, Known}
+use Rattle.expression.specs.Leaves.{leafValued}
 use Rattle.expression.specs.Places.{Placement, valuedOf}
 use Rattle.expression.specs.declared.Valued.{Valued}
 use Rattle.expression.proofs.Views.{operand-counted, Alone, One, Two, Three, own-cell}
@@ -30,6 +31,7 @@ use Rattle.expression.proofs.Views.{unary-view, binary-view, conditional-view, 
 use Rattle.expression.proofs.Views.{constant-view, wire-view, input-view}
 use Rattle.expression.proofs.Values.{operandValue, wholeValue, unary-value, binary-value, choose-value, first-chosen, reset-value, fby-value}
 use Rattle.expression.proofs.Values.{finished}
+use Rattle.expression.proofs.Answers.{leaf-answer}
 use Rattle.storing.specs.Advances.{Ready, Advances}
 use Rattle.storing.proofs.Steps.{Steps, Stays, operandStored, operandKept, put-first, one-ready, one-step, two-ready, two-step, two-step-2}
 use Rattle.storing.proofs.Steps.{three-step, three-step-2, three-step-3, three-rest-2, three-rest-3, rest-step-3}
@@ -110,9 +112,9 @@ module _ {sheet row memory words : List ℕ} {bits level asked at cell : ℕ}
           let is : kind ≡ 3 = omega arith in
           ap (λ e. stored (here .now) fresh e cell) (input-view here is .leaf .tree)
 
-  pub leaf-advances : kind < 4 → {r : Valued} → r ≡ valuedOf here fresh → Advances p fresh r memory
+  pub leaf-advances : kind < 4 → {r : Valued} → r ≡ leafValued sheet row words bits asked at cell → Advances p fresh r memory
   unfolding memoryBytes
-  leaf-advances below e = record { answer = e; holds = rw (leaf-stored below) }
+  leaf-advances below e = record { answer = e ∙ leaf-answer here fresh below; holds = rw (leaf-stored below) }
 
   module _ (types : List ℕ) (e : take (countOf kind) types ≡ operandsOf kind asked) where
     pub operation-ready : 4 ≤ kind → kind < 12 → Ready sheet row memory words bits (level - 1) (getD types 0 0) (at + 1) cell

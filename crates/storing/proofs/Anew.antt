@@ -8,6 +8,7 @@ use native.Mathlib.Nat.{zero-add, suc-add}
 use lib.Dec.{eqb}
 use lib.ListN.{length, getD, length-append}
 use lib.Seq.{sets}
+use Rattle.numbers.specs.Laws.{sets-append}
 use Rattle.sheet.specs.Data.{typeOfByte}
 use Rattle.sheet.specs.Expressions.{Expression, CellForm, cellForms}
 use Rattle.sheet.specs.Kinds.{bodyOf, cellsOf, countOf, operandsOf, foundOf}
@@ -20,7 +21,6 @@ use Rattle.sheet_walk.specs.Skips.{Readable}
 use Rattle.sheet_start.specs.Scans.{ownCell, ownBytes}
 use Rattle.sheet_start.proofs.Scanning.{startBytes, own-length}
 use Rattle.storing.specs.Advances.{Restarts}
-use Rattle.storing.proofs.Splices.{sets-append}
 
 start-append : (a b : List CellForm) → startBytes (a ++ b) ≡ startBytes a ++ startBytes b
 unfolding memoryBytes startMemory

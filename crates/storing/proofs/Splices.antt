@@ -1,16 +1,10 @@
--- Runs of bytes put into a memory: one behind the other, in either order, where they stood already, and what lies behind them.
+-- Runs of bytes put into a memory: in either order, where they stood already, and what lies behind them.
 use Prim.Native.Nat.{ℕ, suc, _+_, _≤_, _<_}
 use mathlib.Core.Path.{_≡_, refl, ap, _∙_}
-use mathlib.Core.List.{List, [], _∷_, _++_}
+use mathlib.Core.List.{List, [], _∷_}
 use native.Mathlib.Omega.{arith}
-use native.Mathlib.Nat.{add-zero}
 use lib.ListN.{length, set, take, drop, length-drop, take-append-drop}
 use lib.Seq.{sets, sets-eq, set-comm, drop-set-lt, length-take-le, take-add}
-
-pub sets-append : (vs ws l : List ℕ) (i : ℕ) → sets l i (vs ++ ws) ≡ sets (sets l i vs) (i + length vs) ws
-sets-append [] ws l i = rw add-zero
-sets-append (v ∷ vs) ws l i =
-    let e : i + suc (length vs) ≡ suc i + length vs = omega arith in rw e (sets-append vs ws (set l i v) (suc i))
 
 set-below : (ws l : List ℕ) (i j a : ℕ) → i < j → set (sets l j ws) i a ≡ sets (set l i a) j ws
 set-below [] l i j a h = refl

@@ -7,7 +7,7 @@ use mathlib.Core.List.{List, [], _∷_, _++_, append-assoc}
 use native.Mathlib.Omega.{arith}
 use lib.ListN.{length, getD, take, drop, length-append, length-drop, length-map}
 use lib.Seq.{sets, length-sets, drop-cons, length-take-le}
-use Rattle.numbers.specs.Laws.{sets-past}
+use Rattle.numbers.specs.Laws.{sets-past, sets-append}
 use Rattle.sheet.specs.Expressions.{Expression, constant, wire, input, unary, binary, choose, reset, pre, fby}
 use Rattle.sheet.specs.Expressions.{CellForm, cellForms, cellCount}
 use Rattle.sheet.specs.Memory.{cellBytes, memoryBytes, startMemory}
@@ -17,7 +17,7 @@ use Rattle.sheet.specs.declared.Cell.the-variants.{NotStarted, Started}
 use Rattle.kernel.specs.Values.{isTrue}
 use Rattle.kernel.specs.Instant.{Environment, runs, value, kept, stored}
 use Rattle.expression.specs.Places.{CellStands, CellsStand, none, more}
-use Rattle.storing.proofs.Splices.{sets-append, sets-same, drop-past}
+use Rattle.storing.proofs.Splices.{sets-same, drop-past}
 
 module _ {memory : List ℕ} (vs : List ℕ) (i : ℕ) where
   cell-past : {k : ℕ} {form : CellForm} {c : Cell} → i + length vs ≤ 5 * k → CellStands memory k form c

@@ -7,6 +7,7 @@ use mathlib.Core.List.{List, [], _∷_, _++_}
 use native.Mathlib.Omega.{arith}
 use lib.ListN.{length, length-append}
 use lib.Seq.{sets, length-sets}
+use Rattle.numbers.specs.Laws.{sets-append}
 use Rattle.sheet.specs.Expressions.{Expression, cellForms, cellCount}
 use Rattle.sheet.specs.Memory.{cellBytes, memoryBytes}
 use Rattle.sheet.specs.Laws.Memory.{memory-length}
@@ -17,7 +18,7 @@ use Rattle.expression.specs.Places.{CellsStand, valuedOf}
 use Rattle.expression.specs.declared.Valued.{Valued}
 use Rattle.expression.proofs.Views.{Operand, placed, readable, operand-counted, One, Two, Three}
 use Rattle.storing.specs.Advances.{Ready, Advances, Arm, Rests}
-use Rattle.storing.proofs.Splices.{sets-append, sets-turned}
+use Rattle.storing.proofs.Splices.{sets-turned}
 use Rattle.storing.proofs.Standing.{cells-past, cell-length, memory-append, kept-length, stored-length}
 
 module _ {sheet row memory words : List ℕ} {bits level asked at cell : ℕ}

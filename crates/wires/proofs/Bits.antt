@@ -1,17 +1,17 @@
 -- What the bit operations of `Wires` do to the set: shift, or, and, the count of ones, the zeros below the lowest one.
 use Prim.Native.Nat.{ℕ, zero, suc, _+_, _-_, _*_, _/_, _%_, _^_, _<_}
 use mathlib.Core.Path.{_≡_, refl, sym, ap, ap₂, _∙_}
-use mathlib.Core.Bool.{Bool, true, false, cond, _||_}
+use mathlib.Core.Bool.{Bool, true, false, cond, _||_, true≢false}
 use native.Mathlib.Nat.{mod-lt, mod-eq-of-lt, mod-one, div-one, div-eq-of-lt, mul-mod-left, mul-div-cancel}
 use native.Mathlib.Nat.{pow-suc, zero-lt-suc, zero-div, one-mul}
 use native.Mathlib.Numerals.{one-add}
 use native.Mathlib.Omega.{arith}
 use lib.Dec.{eqb, eqb·suc-suc, eqb·zero-suc, eqb·suc-zero, lit<}
-use lib.Bits.{bitOr, bitAnd, or-shr, or-mod, and-mask}
+use lib.Bits.{bitOr, bitAnd, or-shr, or-mod, or-lt, and-mask}
 use lib.Count.{ones, ones-cat, ones-ones, trailingZeros, under, trailing-le}
 use lib.Pow.{pow-pos, pow-lt, shr-shr, mod-pow-add}
-use borrow.Author.Tests.{eq-eqb, ne-eqb}
-use Rattle.wires.specs.Sets.{member, tally, LowestMissing}
+use borrow.Author.Tests.{eqb-true, eq-eqb, ne-eqb}
+use Rattle.wires.specs.Sets.{member, tally, LowestMissing, TestsWithin}
 
 -- one digit further up is one digit of the half
 half : (n k : ℕ) → n / 2 ^ suc k ≡ n / 2 / 2 ^ k
@@ -72,7 +72,7 @@ tally-ones n (suc k) =
 pub count-is : (n : ℕ) → n < 2 ^ 64 → ones n ≡ tally (member n) 64
 count-is n h = sym (tally-ones n 64 ∙ ap ones (mod-eq-of-lt h))
 
--- The lowest that is missing.
+-- Digit by digit from the lowest.
 
 member-zero : (n : ℕ) → member n 0 ≡ eqb (n % 2) 1
 unfolding member
@@ -81,6 +81,43 @@ member-zero n = rw div-one
 member-suc : (n k : ℕ) → member n (suc k) ≡ member (n / 2) k
 unfolding member
 member-suc n k = rw half
+
+halves : (k n : ℕ) → n < 2 ^ suc k → n / 2 < 2 ^ k
+halves k n h = let l : n < 2 ^ k * 2 = rw pow-suc at h in omega arith
+
+-- A set within another: joined to it, it adds nothing.
+
+digit-same : (p q : ℕ) → p < 2 → q < 2 → eqb p 1 ≡ eqb q 1 → p ≡ q
+digit-same zero zero hp hq e = refl
+digit-same zero (suc zero) hp hq e = absurd (true≢false (sym e))
+digit-same (suc zero) zero hp hq e = absurd (true≢false e)
+digit-same (suc zero) (suc zero) hp hq e = refl
+digit-same zero (suc (suc q)) hp hq e = absurd (omega arith)
+digit-same (suc zero) (suc (suc q)) hp hq e = absurd (omega arith)
+digit-same (suc (suc p)) q hp hq e = absurd (omega arith)
+
+-- numbers of k digits with the same members are the same
+same-members : (k n m : ℕ) → n < 2 ^ k → m < 2 ^ k → ((i : ℕ) → member n i ≡ member m i) → n ≡ m
+same-members zero n m hn hm e = omega arith
+same-members (suc k) n m hn hm e =
+    let low = digit-same (n % 2) (m % 2) (omega arith) (omega arith) (sym (member-zero n) ∙ e 0 ∙ member-zero m) in
+    let high = same-members k (n / 2) (m / 2) (halves k n hn) (halves k m hm)
+    (λ i. sym (member-suc n i) ∙ e (suc i) ∙ member-suc m i) in
+    omega arith
+
+or-right : (a b : Bool) → (a ≡ true → b ≡ true) → (a || b) ≡ b
+or-right true b h = sym (h refl)
+or-right false b h = refl
+
+pub within-is : (n m : ℕ) → n < 2 ^ 64 → m < 2 ^ 64 → TestsWithin n m (eqb (bitOr n m) m)
+within-is n m hn hm =
+    record {
+      all = λ e k i. sym (ap (λ (x : ℕ). member x k) (eqb-true (bitOr n m) m e)) ∙ or-member n m k ∙ ap (λ b. b || member m k) i;
+      only = λ h. eq-eqb (bitOr n m) m
+          (same-members 64 (bitOr n m) m (or-lt 64 n m hn hm) hm (λ k. or-member n m k ∙ or-right (member n k) (member m k) (h k)));
+    }
+
+-- The lowest that is missing.
 
 -- what the code counts at k digits: the zeros below the lowest one of the complement
 abbrev lowest : ℕ → ℕ → ℕ
@@ -94,9 +131,6 @@ turned k n h =
     let p : (2 ^ k * 2 - 1 - n) % 2 ≡ 1 - n % 2 = omega arith in
     let q : (2 ^ k * 2 - 1 - n) / 2 ≡ 2 ^ k - 1 - n / 2 = omega arith in
     rw (pow-suc, p, q)
-
-halves : (k n : ℕ) → n < 2 ^ suc k → n / 2 < 2 ^ k
-halves k n h = let l : n < 2 ^ k * 2 = rw pow-suc at h in omega arith
 
 below : (k n j : ℕ) → n < 2 ^ k → j < lowest k n → member n j ≡ true
 unfolding trailingZeros

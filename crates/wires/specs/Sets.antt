@@ -8,6 +8,11 @@ use lib.Dec.{eqb}
 unfoldable pub member : ℕ → ℕ → Bool
 member n k = eqb (n / 2 ^ k % 2) 1
 
+-- r says whether every wire of the set whose bits are n is in the one whose bits are m
+pub record TestsWithin (n m : ℕ) (r : Bool) : Type 0 where
+  pub all : r ≡ true → (k : ℕ) → member n k ≡ true → member m k ≡ true
+  pub only : ((k : ℕ) → member n k ≡ true → member m k ≡ true) → r ≡ true
+
 -- how many numbers below k pass a test
 unfoldable pub tally : (ℕ → Bool) → ℕ → ℕ
 tally f zero = zero

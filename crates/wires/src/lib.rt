@@ -3,7 +3,7 @@ ghost use mathlib.Core.Path.{_≡_};
 ghost use Prim.Native.Nat.{ℕ, _<_};
 ghost use mathlib.Core.Bool.{_||_, false};
 ghost use lib.Dec.{eqb};
-ghost use Rattle.wires.specs.Sets.{member, tally, LowestMissing};
+ghost use Rattle.wires.specs.Sets.{member, tally, LowestMissing, TestsWithin};
 
 // A set of wires, each below 64.
 pub struct Wires {
@@ -34,6 +34,13 @@ impl Wires {
         Wires {
             bits: self.bits | (1 << wire),
         }
+    }
+
+    // Whether every wire of the set is in `other` too: then nothing is added to `other`.
+    pub fn within(self, other: Wires) -> bool
+        ensures { λ r. ⌜ TestsWithin (self .bits) (other .bits) r ⌝ }
+    {
+        self.bits | other.bits == other.bits
     }
 
     // How many wires are in the set.

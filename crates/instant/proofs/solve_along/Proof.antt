@@ -6,7 +6,7 @@ use Rattle.kernel.specs.Schedules.{scheduleOf, IsSchedule}
 use Rattle.schedule.specs.Orders.{orderedAnswer}
 use Rattle.instant.specs.Along.{wiresOf}
 use Rattle.instant.proofs.Laying.{Laid, laid}
-use Rattle.instant.proofs.Calling.{given, HoldsFinished, settled, row-fits, Sited, located, along}
+use Rattle.instant.proofs.Calling.{given, HoldsFinished, settled, row-fits, Sited, along}
 use Rattle.instant.proofs.Calling.{order-refused, order-passed, pass-holds, scheduled-accepts}
 use Rattle.instant.proofs.solve_along.Statement.{statement}
 use Rattle.instant.proofs.solve_along.Tie as tie
@@ -16,46 +16,36 @@ laid-of : (c : tie.After-slice-known) → let a = c .before .before .args in
     Laid (a .sheet .now) (a .memory .now) (a .input .now) (a .output .now) (a .inputs) (a .wires) (a .outputs)
 laid-of c = laid (c .before .before .pre) (λ i. omega (arith, c .slice-known .given i))
 
--- where these are known, from the walk to the wires; the walk, from the check of the list; the check, from the pass
-abbrev slices : tie.After-locate → tie.After-slice-known
+-- where these are known, from the check of the list; the check, from the pass
+abbrev slices : tie.After-check-schedule → tie.After-slice-known
 slices c = c .before .before .before .before .before .before .before
-
-abbrev walk : tie.After-check-schedule → tie.After-locate
-walk c = c .before .before .before .before .before
 
 abbrev order : tie.After-pass → tie.After-enum-told
 order c = c .before .before .before .before .before
 
--- the wires are located
-sited-of : (c : tie.After-locate) → Sited (laid-of (slices c)) (c .locate .last .1 .1 .1 .0) (c .locate .last .1 .1 .1 .1 .0)
-sited-of c =
-    let l = laid-of (slices c) in
-    record {
-      starts = c .locate .ensures (wiresOf (l .running));
-      inPlaces = omega (arith, l .running .few, c .locate .kept .1 .1 .1 .0);
-      inFirsts = omega (arith, l .running .few, c .locate .kept .1 .1 .1 .1 .0);
-    }
-
 -- what the check of the list answers
-ordered : (c : tie.After-check-schedule) → let l = laid-of (slices (walk c)) in
-    c .check-schedule .result ≡ orderedAnswer (scheduleOf (given l .sheet) (slices (walk c) .before .before .args .schedule .now))
-ordered c =
-    let l = laid-of (slices (walk c)) in
-    c .check-schedule .ensures (located l (sited-of (walk c))) (given l .sheet) refl
+ordered : (c : tie.After-check-schedule) → let l = laid-of (slices c) in
+    c .check-schedule .result ≡ orderedAnswer (scheduleOf (given l .sheet) (slices c .before .before .args .schedule .now))
+ordered c = let l = laid-of (slices c) in c .check-schedule .ensures .0 (wiresOf (l .running)) (given l .sheet) refl
 
--- the list is a schedule
-schedule-of : (c : tie.After-enum-told) → let at = slices (walk (c .before .before)) in
+-- the list is a schedule, and the wires' places are noted
+schedule-of : (c : tie.After-enum-told) → let at = slices (c .before .before) in
     IsSchedule (given (laid-of at) .sheet) (at .before .before .args .schedule .now)
-schedule-of c = order-passed (laid-of (slices (walk (c .before .before)))) (sym (c .enum-told .given .1) ∙ ordered (c .before .before))
+schedule-of c = order-passed (laid-of (slices (c .before .before))) (sym (c .enum-told .given .1) ∙ ordered (c .before .before))
+
+sited-of : (c : tie.After-enum-told) → let noted = c .before .before .check-schedule .last .1 .1 .1 .1 in
+    Sited (laid-of (slices (c .before .before))) (noted .0) (noted .1 .0)
+sited-of c =
+    let checked = c .before .before in
+    checked .check-schedule .ensures .1 (wiresOf (laid-of (slices checked) .running)) (c .enum-told .given .1)
 
 -- the pass came to the finished values
-holds-of : (c : tie.After-pass) → let l = laid-of (slices (walk (order c .before .before))) in
+holds-of : (c : tie.After-pass) → let l = laid-of (slices (order c .before .before)) in
     HoldsFinished l (c .pass .result .bits) (c .pass .last .1 .1 .1 .1 .1 .1 .1 .0)
 holds-of c =
-    let at = walk (order c .before .before) in
-    let l = laid-of (slices at) in
+    let l = laid-of (slices (order c .before .before)) in
     let schedule = schedule-of (order c) in
-    pass-holds l schedule (c .pass .ensures (along l (sited-of at) schedule (l .running .few)))
+    pass-holds l schedule (c .pass .ensures (along l (sited-of (order c)) schedule (l .running .few)))
 
 add-from : tie.Need-add-from
 add-from c = omega (arith, laid-of (c .before .before .before) .within)
@@ -78,27 +68,8 @@ part-types-start c = search needs
 part-types-end : tie.Need-part-types-end
 part-types-end c = omega (arith, laid-of (c .before .before .before) .within)
 
-slice-aggregate-locate : tie.Need-slice-aggregate-locate
-slice-aggregate-locate c = search needs
-
-slice-aggregate-locate-2 : tie.Need-slice-aggregate-locate-2
-slice-aggregate-locate-2 c = search needs
-
-locate-requires : tie.Need-locate-requires
-locate-requires c κs =
-    let l = laid-of (c .before .before .before .before .before .before) in (wiresOf (l .running), l .running .few, l .running .few)
-
-slice-aggregate-check-schedule : tie.Need-slice-aggregate-check-schedule
-slice-aggregate-check-schedule c = search needs
-
-slice-aggregate-check-schedule-2 : tie.Need-slice-aggregate-check-schedule-2
-slice-aggregate-check-schedule-2 c = search needs
-
 check-schedule-requires : tie.Need-check-schedule-requires
-check-schedule-requires c κs =
-    let at = c .before .before .before .before in
-    let l = laid-of (slices at) in
-    (l .running .few, located l (sited-of at))
+check-schedule-requires c κs = let l = laid-of (c .before .before .before .before .before .before) in (l .running .few, wiresOf (l .running))
 
 enum-known-why : tie.Need-enum-known-why
 enum-known-why c = search needs
@@ -106,28 +77,16 @@ enum-known-why c = search needs
 enum-told : tie.Need-enum-told
 enum-told c = search needs
 
-slice-aggregate-pass : tie.Need-slice-aggregate-pass
-slice-aggregate-pass c = search needs
-
-slice-aggregate-pass-2 : tie.Need-slice-aggregate-pass-2
-slice-aggregate-pass-2 c = search needs
-
-slice-aggregate-pass-3 : tie.Need-slice-aggregate-pass-3
-slice-aggregate-pass-3 c = search needs
-
 pass-requires : tie.Need-pass-requires
 pass-requires c κs =
-    let at = c .before .before .before .before .before .before .before .before .before .before .before in
-    let l = laid-of (slices at) in
-    along l (sited-of at) (schedule-of (c .before .before .before .before)) (l .running .few)
-
-slice-aggregate-store : tie.Need-slice-aggregate-store
-slice-aggregate-store c = search needs
+    let told = c .before .before .before .before in
+    let l = laid-of (slices (told .before .before)) in
+    along l (sited-of told) (schedule-of told) (l .running .few)
 
 store-requires : tie.Need-store-requires
 store-requires c κs =
-    let made = c .before .before .before in
-    settled (laid-of (slices (walk (order made .before .before)))) (holds-of made)
+    let made = c .before .before in
+    settled (laid-of (slices (order made .before .before))) (holds-of made)
 
 sub-write-row : tie.Need-sub-write-row
 sub-write-row c = search needs
@@ -137,20 +96,17 @@ part-write-row-start c = search needs
 
 part-write-row-end : tie.Need-part-write-row-end
 part-write-row-end c =
-    let made = c .before .before .before .before .before .before in
-    omega (arith, laid-of (slices (walk (order made .before .before))) .within)
-
-slice-aggregate-write-row : tie.Need-slice-aggregate-write-row
-slice-aggregate-write-row c = search needs
+    let made = c .before .before .before .before .before in
+    omega (arith, laid-of (slices (order made .before .before)) .within)
 
 write-row-requires : tie.Need-write-row-requires
 write-row-requires c κs =
-    let made = c .before .before .before .before .before .before .before .before .before in
-    row-fits (laid-of (slices (walk (order made .before .before)))) (holds-of made)
+    let made = c .before .before .before .before .before .before .before .before in
+    row-fits (laid-of (slices (order made .before .before)))
 
 returns : tie.Need-returns
 returns c =
-    let at = slices (walk (c .before .before .before)) in
+    let at = slices (c .before .before .before) in
     order-refused (laid-of at) (at .before .before .args .schedule .now) (sym (c .before .why .given .1) ∙ ordered (c .before .before .before))
 
 same-length : tie.Need-same-length
@@ -161,9 +117,9 @@ same-length-2 c = search needs
 
 returns-2 : tie.Need-returns-2
 returns-2 c =
-    let made = c .before .before .before .before .before .before .before .before .before .before .before .before in
+    let made = c .before .before .before .before .before .before .before .before .before .before .before in
     let stores = c .before .before .before .before .before .before .before .before .store .ensures in
-    let l = laid-of (slices (walk (order made .before .before))) in
+    let l = laid-of (slices (order made .before .before)) in
     let h = holds-of made in
     scheduled-accepts l (schedule-of (order made)) h (stores (settled l h)) (c .before .before .write-row .ensures)
 
@@ -178,24 +134,14 @@ solve-along-spec =
     sub-types
     part-types-start
     part-types-end
-    slice-aggregate-locate
-    slice-aggregate-locate-2
-    locate-requires
-    slice-aggregate-check-schedule
-    slice-aggregate-check-schedule-2
     check-schedule-requires
     enum-known-why
     enum-told
-    slice-aggregate-pass
-    slice-aggregate-pass-2
-    slice-aggregate-pass-3
     pass-requires
-    slice-aggregate-store
     store-requires
     sub-write-row
     part-write-row-start
     part-write-row-end
-    slice-aggregate-write-row
     write-row-requires
     returns
     same-length

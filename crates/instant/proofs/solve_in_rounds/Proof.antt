@@ -37,9 +37,6 @@ part-types-start c = search needs
 part-types-end : tie.Need-part-types-end
 part-types-end c = omega (arith, laid-of (c .before .before) .within)
 
-slice-aggregate-finish : tie.Need-slice-aggregate-finish
-slice-aggregate-finish c = search needs
-
 finish-requires : tie.Need-finish-requires
 finish-requires c κs = let l = laid-of (c .before .before .before .before .before) in (l .running, l .running .few)
 
@@ -52,25 +49,22 @@ cast-if1 c = search needs
 lowest-missing-requires : tie.Need-lowest-missing-requires
 lowest-missing-requires c κs = search needs
 
-cast-t28 : tie.Need-cast-t28
-cast-t28 c = search needs
+cast-t27 : tie.Need-cast-t27
+cast-t27 c = search needs
 
 same-length : tie.Need-same-length
 same-length c = search needs
 
 returns : tie.Need-returns
 returns c =
-    let solved = c .before .before .before .before .before in
+    let solved = c .before .before .before .before in
     let l = laid-of (slices solved) in
     unknown-refused l (solved .finish .ensures (l .running) .0) (λ e. c .before .if1 .taken (c .before .before .count .ensures ∙ e))
     (c .lowest-missing .ensures)
 
-slice-aggregate-store : tie.Need-slice-aggregate-store
-slice-aggregate-store c = search needs
-
 store-requires : tie.Need-store-requires
 store-requires c κs =
-    let solved = c .before .before .before .before .before .before in
+    let solved = c .before .before .before .before .before in
     let l = laid-of (slices solved) in
     settled l (solved .finish .ensures (l .running) .0)
 
@@ -82,16 +76,10 @@ part-write-row-start c = search needs
 
 part-write-row-end : tie.Need-part-write-row-end
 part-write-row-end c =
-    omega (arith, laid-of (slices (c .before .before .before .before .before .before .before .before .before)) .within)
-
-slice-aggregate-write-row : tie.Need-slice-aggregate-write-row
-slice-aggregate-write-row c = search needs
+    omega (arith, laid-of (slices (c .before .before .before .before .before .before .before .before)) .within)
 
 write-row-requires : tie.Need-write-row-requires
-write-row-requires c κs =
-    let solved = c .before .before .before .before .before .before .before .before .before .before .before .before in
-    let l = laid-of (slices solved) in
-    row-fits l (solved .finish .ensures (l .running) .0)
+write-row-requires c κs = row-fits (laid-of (slices (c .before .before .before .before .before .before .before .before .before .before .before)))
 
 same-length-2 : tie.Need-same-length-2
 same-length-2 c = search needs
@@ -102,7 +90,7 @@ same-length-3 c = search needs
 returns-2 : tie.Need-returns-2
 returns-2 c =
     let left = c .before .before .before .before .before .before .before .before .before .before .before in
-    let solved = left .before .before .before .before in
+    let solved = left .before .before .before in
     let l = laid-of (slices solved) in
     let h = solved .finish .ensures (l .running) .0 in
     rounds-accepted l h (sym (left .before .count .ensures) ∙ left .if1 .left) (solved .finish .ensures (l .running) .1)
@@ -119,20 +107,17 @@ solve-in-rounds-spec =
     sub-types
     part-types-start
     part-types-end
-    slice-aggregate-finish
     finish-requires
     count-requires
     cast-if1
     lowest-missing-requires
-    cast-t28
+    cast-t27
     same-length
     returns
-    slice-aggregate-store
     store-requires
     sub-write-row
     part-write-row-start
     part-write-row-end
-    slice-aggregate-write-row
     write-row-requires
     same-length-2
     same-length-3

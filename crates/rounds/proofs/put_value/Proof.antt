@@ -31,17 +31,14 @@ word-of-requires c κs = search needs
 mul-words : tie.Need-mul-words
 mul-words c = search needs
 
-slice-write-words : tie.Need-slice-write-words
-slice-write-words c = search needs
+element-write-words : tie.Need-element-write-words
+element-write-words c = search needs
 
 with-requires : tie.Need-with-requires
 with-requires c κs = search needs
 
 returns : tie.Need-returns
 returns c = rw (c .enum-told .given .1) (passed refl refl)
-
-same-length : tie.Need-same-length
-same-length c = search needs
 
 returns-2 : tie.Need-returns-2
 returns-2 c = known-put (c .before .before .before .worth .given .1) (c .with .ensures) (c .before .word-of .ensures)
@@ -54,8 +51,7 @@ put-value-spec =
     enum-known-worth
     word-of-requires
     mul-words
-    slice-write-words
+    element-write-words
     with-requires
     returns
-    same-length
     returns-2)

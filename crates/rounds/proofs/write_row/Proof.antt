@@ -36,31 +36,30 @@ abbrev μ-loop : tie.MeasureT-loop
 μ-loop outputs words row₀ i₀ row i = length outputs - i
 
 loop-holds : tie.Need-loop-holds Inv-loop μ-loop
-loop-holds c = (omega arith, refl, sets-all _ _ (words-length _ _ ∙ sym (c .before .before .before .pre .1)))
+loop-holds c = (omega arith, refl, sets-all _ _ (words-length _ _ ∙ sym (c .before .before .pre .1)))
 
 shared-slice-read-wire : tie.Need-shared-slice-read-wire Inv-loop μ-loop
 shared-slice-read-wire c = omega arith
 
 cast-wire : tie.Need-cast-wire Inv-loop μ-loop
-cast-wire c = omega (arith, c .shared-slice-known3 .given (c .before .before .loop .i))
+cast-wire c = omega (arith, c .shared-slice-known2 .given (c .before .before .loop .i))
 
 mul-put-word : tie.Need-mul-put-word Inv-loop μ-loop
 mul-put-word c = omega arith
 
 mul-put-word-2 : tie.Need-mul-put-word-2 Inv-loop μ-loop
-mul-put-word-2 c = omega (arith, c .before .shared-slice-known3 .given (c .before .before .before .loop .i))
+mul-put-word-2 c = omega (arith, c .before .shared-slice-known2 .given (c .before .before .before .loop .i))
 
-shared-slice-read-put-word : tie.Need-shared-slice-read-put-word Inv-loop μ-loop
+element-copy-out-put-word : tie.Need-element-copy-out-put-word Inv-loop μ-loop
 unfolding Below
-shared-slice-read-put-word c =
-    c .before .before .before .before .before .before .before .before .pre .0
-    (c .before .before .before .before .loop .i) (c .before .before .before .loop-test .taken)
+element-copy-out-put-word c =
+    c .before .before .before .before .before .before .pre .0 (c .before .before .before .loop .i) (c .before .before .loop-test .taken)
 
 put-word-requires : tie.Need-put-word-requires Inv-loop μ-loop
 put-word-requires c κs =
     omega (
       arith,
-      c .before .before .before .before .before .before .before .before .pre .1,
+      c .before .before .before .before .before .before .before .pre .1,
       c .before .before .before .before .loop .inv .1,
     )
 
@@ -96,7 +95,7 @@ write-row-spec =
     cast-wire
     mul-put-word
     mul-put-word-2
-    shared-slice-read-put-word
+    element-copy-out-put-word
     put-word-requires
     add-i
     loop-less

@@ -23,9 +23,10 @@ same-length c = search needs
 
 returns : tie.Need-returns
 returns c =
-    let a = c .before .before .before .before .before .before .before .before .before .before .before .before .before .args in
+    let a = c .before .before .before .before .before .before .before .before .before .before .before .before .before
+    .before .before .before .args in
     let run = c .before .before .before .before .before .before .check-each .ensures in
-    let read = is-got (readEach (readExpression (a .inputs .now) (a .wires .now) (a .sheet .now) 16) (a .wires .now) (a .at) 0)
+    let read = is-got (readEach (readExpression (a .t2 .now) (a .t3 .now) (a .t1 .now) 16) (a .t3 .now) (a .at) 0)
     (sym (run .0) ∙ c .before .before .next .given .1) in
     (rw (read .1) (simp (lt-ltb _ _ (c .if1 .taken))), run-recorded _ _ _ _ _ (run .1))
 
@@ -34,9 +35,10 @@ same-length-2 c = search needs
 
 returns-2 : tie.Need-returns-2
 returns-2 c =
-    let a = c .before .before .before .before .before .before .before .before .before .before .before .before .args in
+    let a = c .before .before .before .before .before .before .before .before .before .before .before .before .before
+    .before .before .args in
     let run = c .before .before .before .before .before .check-each .ensures in
-    let read = is-refused (readEach (readExpression (a .inputs .now) (a .wires .now) (a .sheet .now) 16) (a .wires .now) (a .at) 0)
+    let read = is-refused (readEach (readExpression (a .t2 .now) (a .t3 .now) (a .t1 .now) 16) (a .t3 .now) (a .at) 0)
     (sym (run .0) ∙ c .before .why .given .1) in
     (rw read, run-recorded _ _ _ _ _ (run .1))
 
@@ -45,9 +47,10 @@ same-length-3 c = search needs
 
 returns-3 : tie.Need-returns-3
 returns-3 c =
-    let a = c .before .before .before .before .before .before .before .before .before .before .before .before .before .args in
+    let a = c .before .before .before .before .before .before .before .before .before .before .before .before .before
+    .before .before .before .args in
     let run = c .before .before .before .before .before .before .check-each .ensures in
-    let read = is-got (readEach (readExpression (a .inputs .now) (a .wires .now) (a .sheet .now) 16) (a .wires .now) (a .at) 0)
+    let read = is-got (readEach (readExpression (a .t2 .now) (a .t3 .now) (a .t1 .now) 16) (a .t3 .now) (a .at) 0)
     (sym (run .0) ∙ c .before .before .next .given .1) in
     (rw (read .1) (simp (le-ltb _ _ (c .if1 .left), length-map)), run-recorded _ _ _ _ _ (run .1))
 

@@ -9,12 +9,12 @@ use Rattle.instant.proofs.store.store.Statement.{statement}
 use Rattle.instant.proofs.store.store.Tie as tie
 
 abbrev Inv-loop : tie.InvT-loop
-Inv-loop sheet memory₀ input types first known words at₀ cell₀ w₀ memory at cell w =
+Inv-loop sheet memory₀ input types first known words input₁ at₀ cell₀ w₀ memory at cell w =
     (w ≤ length types) × (length memory ≡ length memory₀)
     × ((f : Settled sheet memory₀ input types first (known .bits) words) → Stored f w at cell memory)
 
 abbrev μ-loop : tie.MeasureT-loop
-μ-loop sheet memory₀ input types first known words at₀ cell₀ w₀ memory at cell w = length types - w
+μ-loop sheet memory₀ input types first known words input₁ at₀ cell₀ w₀ memory at cell w = length types - w
 
 loop-holds : tie.Need-loop-holds Inv-loop μ-loop
 loop-holds c = (omega arith, refl, λ f. unstored f)
@@ -26,7 +26,7 @@ shared-slice-read-advance-expression c = omega arith
 advance-expression-requires : tie.Need-advance-expression-requires Inv-loop μ-loop
 advance-expression-requires c κs =
     let f = c .before .before .before .before .before .before .before .before .before .pre in
-    ready f (c .before .before .before .loop .inv .2 f) (c .before .before .loop-test .taken)
+    ready f (c .before .before .before .before .loop .inv .2 f) (c .before .before .before .loop-test .taken)
 
 add-w : tie.Need-add-w Inv-loop μ-loop
 add-w c = omega arith
@@ -36,8 +36,8 @@ loop-less c = omega arith
 
 loop-again : tie.Need-loop-again Inv-loop μ-loop
 loop-again c =
-    let l = c .before .before .before .before .before .before .loop in
-    let more = c .before .before .before .before .before .loop-test .taken in
+    let l = c .before .before .before .before .before .before .before .loop in
+    let more = c .before .before .before .before .before .before .loop-test .taken in
     let v = c .before .before .advance-expression in (
       omega arith,
       v .kept .1 .1 .0 ∙ l .inv .1,

@@ -1,17 +1,19 @@
 -- The functions that value an expression meet their contracts. The level falls from an expression to its operands; an expression
--- goes by its kind at the same level.
+-- goes by its kind at the same level, if it is no leaf.
 use Prim.Native.Nat.{ℕ, _<_, _+_, _*_}
 use mathlib.Core.Path.{sym, _∙_}
 use native.Mathlib.Omega.{arith}
 use borrow.Author.Needs.{needs}
 use borrow.Fn.Kinds.{In}
 use borrow.Fn.PlainCycle.{Measures, is, falls, and}
-use Rattle.expression.proofs.Views.{opened, placed, readable, own-cell}
+use Rattle.expression.proofs.Views.{opened, placed, readable, leaf-of, own-cell}
 use Rattle.expression.proofs.Views.{operation-first, binary-view, conditional-view, present-view, reset-view, fby-view}
 use Rattle.expression.proofs.Values.{after-value, after-walk}
 use Rattle.expression.proofs.Answers.{unary-answer, binary-answer, conditional-answer, reset-answer-unknown, reset-answer}
 use Rattle.expression.proofs.Answers.{present-answer-first, present-answer-unknown, present-answer-second}
-use Rattle.expression.proofs.Answers.{fby-answer-left, fby-answer-held}
+use Rattle.expression.proofs.Answers.{fby-answer-left, fby-answer-held, leaf-answer}
+use Rattle.expression.proofs.value.value_by_kind.Reads as by-kind
+use Rattle.expression.proofs.value.value_by_kind.Kinds as by-kind-kinds
 use Rattle.expression.proofs.value.value_conditional.Reads as conditional
 use Rattle.expression.proofs.value.value_conditional.Kinds as conditional-kinds
 use Rattle.expression.proofs.value.value_expression.Reads as expression
@@ -24,7 +26,7 @@ use Rattle.expression.proofs.value.value_present.Reads as present
 use Rattle.expression.proofs.value.value_present.Kinds as present-kinds
 use Rattle.expression.proofs.value.value_reset.Reads as reset
 use Rattle.expression.proofs.value.value_reset.Kinds as reset-kinds
-use Rattle.expression.proofs.value.value_leaf.Reads as leaf-reads
+use Rattle.expression.proofs.leaf.value_leaf.Reads as leaf-reads
 use Rattle.expression.proofs.value.value_pre.Reads as pre-reads
 use Rattle.operations.proofs.binary.Reads as binary-reads
 use Rattle.operations.proofs.conditional.Reads as conditional-reads
@@ -32,71 +34,81 @@ use Rattle.operations.proofs.is_true.Reads as is-true-reads
 use Rattle.operations.proofs.is_unknown.Reads as is-unknown-reads
 use Rattle.operations.proofs.started.Reads as started-reads
 use Rattle.operations.proofs.unary.Reads as unary-reads
-use Rattle.sheet.proofs.kinds.operand_types.Reads as operand-types-reads
+use Rattle.sheet.proofs.kinds.operation_type.Reads as operation-type-reads
 use Rattle.sheet.proofs.memory.cell_at.Reads as cell-at-reads
 use Rattle.sheet_walk.proofs.skip.skip.Reads as skip-reads
-use Rattle.expression.proofs.value.+value_conditional+value_expression+value_fby+value_operation+value_present+value_reset.{statement}
-use Rattle.expression.proofs.value.+value_conditional+value_expression+value_fby+value_operation+value_present+value_reset.Lts-value_conditional as conditional-lts
-use Rattle.expression.proofs.value.+value_conditional+value_expression+value_fby+value_operation+value_present+value_reset.Lts-value_expression as expression-lts
-use Rattle.expression.proofs.value.+value_conditional+value_expression+value_fby+value_operation+value_present+value_reset.Lts-value_fby as fby-lts
-use Rattle.expression.proofs.value.+value_conditional+value_expression+value_fby+value_operation+value_present+value_reset.Lts-value_operation as operation-lts
-use Rattle.expression.proofs.value.+value_conditional+value_expression+value_fby+value_operation+value_present+value_reset.Lts-value_present as present-lts
-use Rattle.expression.proofs.value.+value_conditional+value_expression+value_fby+value_operation+value_present+value_reset.Lts-value_reset as reset-lts
-use Rattle.expression.proofs.value.+value_conditional+value_expression+value_fby+value_operation+value_present+value_reset.Tie.{close}
+use Rattle.expression.proofs.value.+value_by_kind+value_conditional+value_expression+value_fby+value_operation+value_present+value_reset.{statement}
+use Rattle.expression.proofs.value.+value_by_kind+value_conditional+value_expression+value_fby+value_operation+value_present+value_reset.Lts-value_by_kind as by-kind-lts
+use Rattle.expression.proofs.value.+value_by_kind+value_conditional+value_expression+value_fby+value_operation+value_present+value_reset.Lts-value_conditional as conditional-lts
+use Rattle.expression.proofs.value.+value_by_kind+value_conditional+value_expression+value_fby+value_operation+value_present+value_reset.Lts-value_expression as expression-lts
+use Rattle.expression.proofs.value.+value_by_kind+value_conditional+value_expression+value_fby+value_operation+value_present+value_reset.Lts-value_fby as fby-lts
+use Rattle.expression.proofs.value.+value_by_kind+value_conditional+value_expression+value_fby+value_operation+value_present+value_reset.Lts-value_operation as operation-lts
+use Rattle.expression.proofs.value.+value_by_kind+value_conditional+value_expression+value_fby+value_operation+value_present+value_reset.Lts-value_present as present-lts
+use Rattle.expression.proofs.value.+value_by_kind+value_conditional+value_expression+value_fby+value_operation+value_present+value_reset.Lts-value_reset as reset-lts
+use Rattle.expression.proofs.value.+value_by_kind+value_conditional+value_expression+value_fby+value_operation+value_present+value_reset.Tie.{close}
 
-abbrev μ-conditional : Measures 4 conditional-kinds.ps ℕ
-μ-conditional κs a = 2 * a .1 .1 .1 .1 .1 .0
+abbrev μ-by-kind : Measures 6 by-kind-kinds.ps ℕ
+μ-by-kind κs a = 3 * a .1 .1 .1 .1 .1 .0 + 1
 
-abbrev μ-expression : Measures 4 expression-kinds.ps ℕ
-μ-expression κs a = 2 * a .1 .1 .1 .1 .1 .0 + 1
+abbrev μ-conditional : Measures 6 conditional-kinds.ps ℕ
+μ-conditional κs a = 3 * a .1 .1 .1 .1 .1 .0
 
-abbrev μ-fby : Measures 4 fby-kinds.ps ℕ
-μ-fby κs a = 2 * a .1 .1 .1 .1 .1 .0
+abbrev μ-expression : Measures 6 expression-kinds.ps ℕ
+μ-expression κs a = 3 * a .1 .1 .1 .1 .1 .0 + 2
 
-abbrev μ-operation : Measures 4 operation-kinds.ps ℕ
-μ-operation κs a = 2 * a .1 .1 .1 .1 .1 .0
+abbrev μ-fby : Measures 6 fby-kinds.ps ℕ
+μ-fby κs a = 3 * a .1 .1 .1 .1 .1 .0
 
-abbrev μ-present : Measures 4 present-kinds.ps ℕ
-μ-present κs a = 2 * a .1 .1 .1 .1 .1 .0
+abbrev μ-operation : Measures 6 operation-kinds.ps ℕ
+μ-operation κs a = 3 * a .1 .1 .1 .1 .1 .0
 
-abbrev μ-reset : Measures 4 reset-kinds.ps ℕ
-μ-reset κs a = 2 * a .1 .1 .1 .1 .1 .0
+abbrev μ-present : Measures 6 present-kinds.ps ℕ
+μ-present κs a = 3 * a .1 .1 .1 .1 .1 .0
 
-abbrev conditional-at : ℕ → In 4 conditional-kinds.ps
-conditional-at t = and 4 conditional-kinds.ps (is 4 conditional-kinds.ps μ-conditional t) conditional.Pre
+abbrev μ-reset : Measures 6 reset-kinds.ps ℕ
+μ-reset κs a = 3 * a .1 .1 .1 .1 .1 .0
 
-abbrev conditional-below : ℕ → In 4 conditional-kinds.ps
-conditional-below t = and 4 conditional-kinds.ps (falls 4 conditional-kinds.ps _<_ μ-conditional t) conditional.Pre
+abbrev by-kind-at : ℕ → In 6 by-kind-kinds.ps
+by-kind-at t = and 6 by-kind-kinds.ps (is 6 by-kind-kinds.ps μ-by-kind t) by-kind.Pre
 
-abbrev expression-at : ℕ → In 4 expression-kinds.ps
-expression-at t = and 4 expression-kinds.ps (is 4 expression-kinds.ps μ-expression t) expression.Pre
+abbrev by-kind-below : ℕ → In 6 by-kind-kinds.ps
+by-kind-below t = and 6 by-kind-kinds.ps (falls 6 by-kind-kinds.ps _<_ μ-by-kind t) by-kind.Pre
 
-abbrev expression-below : ℕ → In 4 expression-kinds.ps
-expression-below t = and 4 expression-kinds.ps (falls 4 expression-kinds.ps _<_ μ-expression t) expression.Pre
+abbrev conditional-at : ℕ → In 6 conditional-kinds.ps
+conditional-at t = and 6 conditional-kinds.ps (is 6 conditional-kinds.ps μ-conditional t) conditional.Pre
 
-abbrev fby-at : ℕ → In 4 fby-kinds.ps
-fby-at t = and 4 fby-kinds.ps (is 4 fby-kinds.ps μ-fby t) fby.Pre
+abbrev conditional-below : ℕ → In 6 conditional-kinds.ps
+conditional-below t = and 6 conditional-kinds.ps (falls 6 conditional-kinds.ps _<_ μ-conditional t) conditional.Pre
 
-abbrev fby-below : ℕ → In 4 fby-kinds.ps
-fby-below t = and 4 fby-kinds.ps (falls 4 fby-kinds.ps _<_ μ-fby t) fby.Pre
+abbrev expression-at : ℕ → In 6 expression-kinds.ps
+expression-at t = and 6 expression-kinds.ps (is 6 expression-kinds.ps μ-expression t) expression.Pre
 
-abbrev operation-at : ℕ → In 4 operation-kinds.ps
-operation-at t = and 4 operation-kinds.ps (is 4 operation-kinds.ps μ-operation t) operation.Pre
+abbrev expression-below : ℕ → In 6 expression-kinds.ps
+expression-below t = and 6 expression-kinds.ps (falls 6 expression-kinds.ps _<_ μ-expression t) expression.Pre
 
-abbrev operation-below : ℕ → In 4 operation-kinds.ps
-operation-below t = and 4 operation-kinds.ps (falls 4 operation-kinds.ps _<_ μ-operation t) operation.Pre
+abbrev fby-at : ℕ → In 6 fby-kinds.ps
+fby-at t = and 6 fby-kinds.ps (is 6 fby-kinds.ps μ-fby t) fby.Pre
 
-abbrev present-at : ℕ → In 4 present-kinds.ps
-present-at t = and 4 present-kinds.ps (is 4 present-kinds.ps μ-present t) present.Pre
+abbrev fby-below : ℕ → In 6 fby-kinds.ps
+fby-below t = and 6 fby-kinds.ps (falls 6 fby-kinds.ps _<_ μ-fby t) fby.Pre
 
-abbrev present-below : ℕ → In 4 present-kinds.ps
-present-below t = and 4 present-kinds.ps (falls 4 present-kinds.ps _<_ μ-present t) present.Pre
+abbrev operation-at : ℕ → In 6 operation-kinds.ps
+operation-at t = and 6 operation-kinds.ps (is 6 operation-kinds.ps μ-operation t) operation.Pre
 
-abbrev reset-at : ℕ → In 4 reset-kinds.ps
-reset-at t = and 4 reset-kinds.ps (is 4 reset-kinds.ps μ-reset t) reset.Pre
+abbrev operation-below : ℕ → In 6 operation-kinds.ps
+operation-below t = and 6 operation-kinds.ps (falls 6 operation-kinds.ps _<_ μ-operation t) operation.Pre
 
-abbrev reset-below : ℕ → In 4 reset-kinds.ps
-reset-below t = and 4 reset-kinds.ps (falls 4 reset-kinds.ps _<_ μ-reset t) reset.Pre
+abbrev present-at : ℕ → In 6 present-kinds.ps
+present-at t = and 6 present-kinds.ps (is 6 present-kinds.ps μ-present t) present.Pre
+
+abbrev present-below : ℕ → In 6 present-kinds.ps
+present-below t = and 6 present-kinds.ps (falls 6 present-kinds.ps _<_ μ-present t) present.Pre
+
+abbrev reset-at : ℕ → In 6 reset-kinds.ps
+reset-at t = and 6 reset-kinds.ps (is 6 reset-kinds.ps μ-reset t) reset.Pre
+
+abbrev reset-below : ℕ → In 6 reset-kinds.ps
+reset-below t = and 6 reset-kinds.ps (falls 6 reset-kinds.ps _<_ μ-reset t) reset.Pre
 
 abbrev conditional-calls : ℕ → conditional-lts.Claims
 conditional-calls t = (
@@ -108,6 +120,14 @@ conditional-calls t = (
 
 abbrev expression-calls : ℕ → expression-lts.Claims
 expression-calls t = (
+  leaf-reads.Asked,
+  leaf-reads.Learnt,
+  by-kind-below t,
+  by-kind.Post,
+)
+
+abbrev by-kind-calls : ℕ → by-kind-lts.Claims
+by-kind-calls t = (
   conditional-below t,
   conditional.Post,
   present-below t,
@@ -138,8 +158,8 @@ fby-calls t = (
 
 abbrev operation-calls : ℕ → operation-lts.Claims
 operation-calls t = (
-  operand-types-reads.Asked,
-  operand-types-reads.Learnt,
+  operation-type-reads.Asked,
+  operation-type-reads.Learnt,
   expression-below t,
   expression.Post,
   unary-reads.Asked,
@@ -154,6 +174,8 @@ present-calls t = (
   expression.Post,
   is-true-reads.Asked,
   is-true-reads.Learnt,
+  by-kind-below t,
+  by-kind.Post,
   skip-reads.Asked,
   skip-reads.Learnt,
   is-unknown-reads.Asked,
@@ -170,19 +192,21 @@ reset-calls t = (
   skip-reads.Learnt,
   is-true-reads.Asked,
   is-true-reads.Learnt,
+  by-kind-below t,
+  by-kind.Post,
 )
 
 module _ (t : ℕ) where
   conditional-sub-below : conditional-lts.Need-sub-below (conditional-calls t) (conditional-at t) conditional.Post
-  conditional-sub-below c = opened (c .before .before .before .before .pre .1 .0) .level-left
+  conditional-sub-below c = opened (c .before .pre .1 .0) .level-left
 
   conditional-add-first : conditional-lts.Need-add-first (conditional-calls t) (conditional-at t) conditional.Post
-  conditional-add-first c = omega (arith, opened (c .before .before .before .before .pre .1 .0) .good .starts)
+  conditional-add-first c = omega (arith, opened (c .before .pre .1 .0) .good .starts)
 
   conditional-value-expression-requires :
       conditional-lts.Need-value-expression-requires (conditional-calls t) (conditional-at t) conditional.Post
   conditional-value-expression-requires c κs =
-      let b = c .before .before .before .before in
+      let b = c .before in
       let p = b .pre .1 .0 in
       let w = conditional-view p (b .pre .1 .1) in
       (omega (arith, b .pre .0, opened p .level-left), placed p (w .first))
@@ -190,7 +214,7 @@ module _ (t : ℕ) where
   conditional-value-expression-requires-2 :
       conditional-lts.Need-value-expression-requires-2 (conditional-calls t) (conditional-at t) conditional.Post
   conditional-value-expression-requires-2 c κs =
-      let b = c .before .before .before .before .before in
+      let b = c .before .before in
       let p = b .pre .1 .0 in
       let w = conditional-view p (b .pre .1 .1) in (
         omega (arith, b .pre .0, opened p .level-left),
@@ -200,7 +224,7 @@ module _ (t : ℕ) where
   conditional-value-expression-requires-3 :
       conditional-lts.Need-value-expression-requires-3 (conditional-calls t) (conditional-at t) conditional.Post
   conditional-value-expression-requires-3 c κs =
-      let b = c .before .before .before .before .before .before in
+      let b = c .before .before .before in
       let p = b .pre .1 .0 in
       let w = conditional-view p (b .pre .1 .1) in
       let second = after-value p (b .args .fresh) (w .first) (c .before .value-expression .ensures) (w .second) in (
@@ -213,81 +237,83 @@ module _ (t : ℕ) where
 
   conditional-returns : conditional-lts.Need-returns (conditional-calls t) (conditional-at t) conditional.Post
   conditional-returns c =
-      let b = c .before .before .before .before .before .before .before .before in
+      let b = c .before .before .before .before .before in
       λ p. conditional-answer p (b .args .fresh) (b .pre .1 .1) (c .before .before .before .value-expression .ensures)
       (c .before .before .value-expression2 .ensures)
       (c .before .value-expression3 .ensures) (c .conditional .ensures)
 
-  expression-shared-slice-read-match :
-      expression-lts.Need-shared-slice-read-match (expression-calls t) (expression-at t) expression.Post
-  expression-shared-slice-read-match c = opened (c .before .before .before .before .before .pre .1) .good .starts
+  by-kind-shared-slice-read-match :
+      by-kind-lts.Need-shared-slice-read-match (by-kind-calls t) (by-kind-at t) by-kind.Post
+  by-kind-shared-slice-read-match c = opened (c .before .before .pre .1) .good .starts
 
-  expression-value-conditional-requires :
-      expression-lts.Need-value-conditional-requires (expression-calls t) (expression-at t) expression.Post
-  expression-value-conditional-requires c κs =
-      let b = c .before .before .before .before .before .before in
+  by-kind-value-conditional-requires :
+      by-kind-lts.Need-value-conditional-requires (by-kind-calls t) (by-kind-at t) by-kind.Post
+  by-kind-value-conditional-requires c κs =
+      let b = c .before .before .before in
       (omega (arith, b .pre .0), (b .pre .1, c .match .keys1))
 
-  expression-value-present-requires : expression-lts.Need-value-present-requires (expression-calls t) (expression-at t) expression.Post
-  expression-value-present-requires c κs =
-      let b = c .before .before .before .before .before .before in
+  by-kind-value-present-requires : by-kind-lts.Need-value-present-requires (by-kind-calls t) (by-kind-at t) by-kind.Post
+  by-kind-value-present-requires c κs =
+      let b = c .before .before .before in
       (omega (arith, b .pre .0), (b .pre .1, c .match .keys2))
 
-  expression-value-reset-requires : expression-lts.Need-value-reset-requires (expression-calls t) (expression-at t) expression.Post
-  expression-value-reset-requires c κs =
-      let b = c .before .before .before .before .before .before in
+  by-kind-value-reset-requires : by-kind-lts.Need-value-reset-requires (by-kind-calls t) (by-kind-at t) by-kind.Post
+  by-kind-value-reset-requires c κs =
+      let b = c .before .before .before in
       (omega (arith, b .pre .0), (b .pre .1, c .match .keys3))
 
-  expression-value-leaf-requires : expression-lts.Need-value-leaf-requires (expression-calls t) (expression-at t) expression.Post
-  expression-value-leaf-requires c κs = (c .before .before .before .before .before .before .before .pre .1, search needs)
+  by-kind-value-leaf-requires : by-kind-lts.Need-value-leaf-requires (by-kind-calls t) (by-kind-at t) by-kind.Post
+  by-kind-value-leaf-requires c κs = leaf-of (c .before .before .before .before .pre .1) (omega arith)
 
-  expression-value-operation-requires :
-      expression-lts.Need-value-operation-requires (expression-calls t) (expression-at t) expression.Post
-  expression-value-operation-requires c κs =
-      let b = c .before .before .before .before .before .before .before .before in
+  by-kind-value-operation-requires :
+      by-kind-lts.Need-value-operation-requires (by-kind-calls t) (by-kind-at t) by-kind.Post
+  by-kind-value-operation-requires c κs =
+      let b = c .before .before .before .before .before in
       (omega (arith, b .pre .0), (b .pre .1, search needs))
 
-  expression-value-pre-requires : expression-lts.Need-value-pre-requires (expression-calls t) (expression-at t) expression.Post
-  expression-value-pre-requires c κs = (c .before .before .before .before .before .before .before .before .before .pre .1, search needs)
+  by-kind-value-pre-requires : by-kind-lts.Need-value-pre-requires (by-kind-calls t) (by-kind-at t) by-kind.Post
+  by-kind-value-pre-requires c κs = (c .before .before .before .before .before .before .pre .1, search needs)
 
-  expression-value-fby-requires : expression-lts.Need-value-fby-requires (expression-calls t) (expression-at t) expression.Post
-  expression-value-fby-requires c κs =
-      let b = c .before .before .before .before .before .before .before .before .before in
+  by-kind-value-fby-requires : by-kind-lts.Need-value-fby-requires (by-kind-calls t) (by-kind-at t) by-kind.Post
+  by-kind-value-fby-requires c κs =
+      let b = c .before .before .before .before .before .before in
       (omega (arith, b .pre .0), (b .pre .1, omega (arith, opened (b .pre .1) .good .kind)))
 
-  expression-returns : expression-lts.Need-returns (expression-calls t) (expression-at t) expression.Post
-  expression-returns c = c .value-conditional .ensures
+  by-kind-returns : by-kind-lts.Need-returns (by-kind-calls t) (by-kind-at t) by-kind.Post
+  by-kind-returns c = c .value-conditional .ensures
 
-  expression-returns-2 : expression-lts.Need-returns-2 (expression-calls t) (expression-at t) expression.Post
-  expression-returns-2 c = c .value-present .ensures
+  by-kind-returns-2 : by-kind-lts.Need-returns-2 (by-kind-calls t) (by-kind-at t) by-kind.Post
+  by-kind-returns-2 c = c .value-present .ensures
 
-  expression-returns-3 : expression-lts.Need-returns-3 (expression-calls t) (expression-at t) expression.Post
-  expression-returns-3 c = c .value-reset .ensures
+  by-kind-returns-3 : by-kind-lts.Need-returns-3 (by-kind-calls t) (by-kind-at t) by-kind.Post
+  by-kind-returns-3 c = c .value-reset .ensures
 
-  expression-returns-4 : expression-lts.Need-returns-4 (expression-calls t) (expression-at t) expression.Post
-  expression-returns-4 c = c .value-leaf .ensures
+  by-kind-returns-4 : by-kind-lts.Need-returns-4 (by-kind-calls t) (by-kind-at t) by-kind.Post
+  by-kind-returns-4 c =
+      let b = c .before .before .before .before .before in
+      λ p. c .value-leaf .ensures ∙ leaf-answer p (b .args .fresh) (omega arith)
 
-  expression-returns-5 : expression-lts.Need-returns-5 (expression-calls t) (expression-at t) expression.Post
-  expression-returns-5 c = c .value-operation .ensures
+  by-kind-returns-5 : by-kind-lts.Need-returns-5 (by-kind-calls t) (by-kind-at t) by-kind.Post
+  by-kind-returns-5 c = c .value-operation .ensures
 
-  expression-returns-6 : expression-lts.Need-returns-6 (expression-calls t) (expression-at t) expression.Post
-  expression-returns-6 c = c .value-pre .ensures
+  by-kind-returns-6 : by-kind-lts.Need-returns-6 (by-kind-calls t) (by-kind-at t) by-kind.Post
+  by-kind-returns-6 c = c .value-pre .ensures
 
-  expression-returns-7 : expression-lts.Need-returns-7 (expression-calls t) (expression-at t) expression.Post
-  expression-returns-7 c = c .value-fby .ensures
+  by-kind-returns-7 : by-kind-lts.Need-returns-7 (by-kind-calls t) (by-kind-at t) by-kind.Post
+  by-kind-returns-7 c = c .value-fby .ensures
 
   fby-sub-below : fby-lts.Need-sub-below (fby-calls t) (fby-at t) fby.Post
-  fby-sub-below c = opened (c .before .before .before .before .pre .1 .0) .level-left
+  fby-sub-below c = opened (c .before .pre .1 .0) .level-left
 
   fby-add-first : fby-lts.Need-add-first (fby-calls t) (fby-at t) fby.Post
-  fby-add-first c = omega (arith, opened (c .before .before .before .before .pre .1 .0) .good .starts)
+  fby-add-first c = omega (arith, opened (c .before .pre .1 .0) .good .starts)
 
   fby-add-inner : fby-lts.Need-add-inner (fby-calls t) (fby-at t) fby.Post
-  fby-add-inner c = omega (arith, opened (c .before .before .before .before .pre .1 .0) .good .cells)
+  fby-add-inner c = omega (arith, opened (c .before .pre .1 .0) .good .cells)
 
   fby-cell-at-requires : fby-lts.Need-cell-at-requires (fby-calls t) (fby-at t) fby.Post
   fby-cell-at-requires c κs =
-      let b = c .before .before .before .before in
+      let b = c .before .before in
       own-cell (b .pre .1 .0) (omega (arith, b .pre .1 .1)) .stands .fits
 
   fby-started-requires : fby-lts.Need-started-requires (fby-calls t) (fby-at t) fby.Post
@@ -301,68 +327,64 @@ module _ (t : ℕ) where
 
   fby-value-expression-requires : fby-lts.Need-value-expression-requires (fby-calls t) (fby-at t) fby.Post
   fby-value-expression-requires c κs =
-      let b = c .before .before .before .before .before .before .before .before in
+      let b = c .before .before .before .before .before .before in
       let p = b .pre .1 .0 in
       let w = fby-view p (b .pre .1 .1) in
       (omega (arith, b .pre .0, opened p .level-left), placed p (w .first))
 
   fby-skip-requires : fby-lts.Need-skip-requires (fby-calls t) (fby-at t) fby.Post
   fby-skip-requires c κs =
-      let b = c .before .before .before .before .before .before .before .before .before in
+      let b = c .before .before .before .before .before .before .before in
       let p = b .pre .1 .0 in
       let w = fby-view p (b .pre .1 .1) in
       readable p (after-value p (b .args .fresh) (w .first) (c .value-expression .ensures) (w .second))
 
   fby-returns : fby-lts.Need-returns (fby-calls t) (fby-at t) fby.Post
   fby-returns c =
-      let b = c .before .before .before .before .before .before .before .before .before .before in
+      let b = c .before .before .before .before .before .before .before .before in
       λ p. fby-answer-left p (b .args .fresh) (b .pre .1 .1) (c .before .before .before .before .before .cell-at .ensures)
       (c .before .before .before .before .started .ensures)
       (c .before .before .enum-told .given .1) (c .before .value-expression .ensures) (c .skip .ensures)
 
   fby-skip-requires-2 : fby-lts.Need-skip-requires-2 (fby-calls t) (fby-at t) fby.Post
   fby-skip-requires-2 c κs =
-      let b = c .before .before .before .before .before .before .before .before .before in
+      let b = c .before .before .before .before .before .before .before in
       let p = b .pre .1 .0 in
       let w = fby-view p (b .pre .1 .1) in
       readable p (w .first)
 
   fby-skip-requires-3 : fby-lts.Need-skip-requires-3 (fby-calls t) (fby-at t) fby.Post
   fby-skip-requires-3 c κs =
-      let b = c .before .before .before .before .before .before .before .before .before .before in
+      let b = c .before .before .before .before .before .before .before .before in
       let p = b .pre .1 .0 in
       let w = fby-view p (b .pre .1 .1) in
       readable p (after-walk p (w .first) (c .skip2 .ensures) (w .second))
 
   fby-returns-2 : fby-lts.Need-returns-2 (fby-calls t) (fby-at t) fby.Post
   fby-returns-2 c =
-      let b = c .before .before .before .before .before .before .before .before .before .before .before in
+      let b = c .before .before .before .before .before .before .before .before .before in
       λ p. fby-answer-held p (b .args .fresh) (b .pre .1 .1) (c .before .before .before .before .before .before .cell-at .ensures)
       (c .before .before .before .before .before .started .ensures)
       (c .before .before .before .seen .given .1) (c .before .skip2 .ensures) (c .skip3 .ensures)
 
   operation-shared-slice-read-kind : operation-lts.Need-shared-slice-read-kind (operation-calls t) (operation-at t) operation.Post
-  operation-shared-slice-read-kind c = opened (c .before .before .before .before .before .pre .1 .0) .good .starts
+  operation-shared-slice-read-kind c = opened (c .before .before .pre .1 .0) .good .starts
 
-  operation-operand-types-requires : operation-lts.Need-operand-types-requires (operation-calls t) (operation-at t) operation.Post
-  operation-operand-types-requires c κs = opened (c .before .before .before .before .before .pre .1 .0) .good .kind
+  operation-operation-type-requires : operation-lts.Need-operation-type-requires (operation-calls t) (operation-at t) operation.Post
+  operation-operation-type-requires c κs = c .before .before .pre .1 .1
 
   operation-sub-below : operation-lts.Need-sub-below (operation-calls t) (operation-at t) operation.Post
-  operation-sub-below c = opened (c .before .before .before .before .before .before .pre .1 .0) .level-left
+  operation-sub-below c = opened (c .before .before .before .pre .1 .0) .level-left
 
   operation-add-first : operation-lts.Need-add-first (operation-calls t) (operation-at t) operation.Post
-  operation-add-first c = omega (arith, opened (c .before .before .before .before .before .before .pre .1 .0) .good .starts)
-
-  operation-array-read-value-expression :
-      operation-lts.Need-array-read-value-expression (operation-calls t) (operation-at t) operation.Post
-  operation-array-read-value-expression c = search needs
+  operation-add-first c = omega (arith, opened (c .before .before .before .pre .1 .0) .good .starts)
 
   operation-value-expression-requires : operation-lts.Need-value-expression-requires (operation-calls t) (operation-at t) operation.Post
   operation-value-expression-requires c κs =
-      let b = c .before .before .before .before .before .before in
+      let b = c .before .before .before in
       let p = b .pre .1 .0 in (
         omega (arith, b .pre .0, opened p .level-left),
-        placed p (operation-first p _ (c .operand-types .ensures) (b .pre .1 .1 .0) (b .pre .1 .1 .1)),
+        placed p (operation-first p _ (c .operation-type .ensures _) (b .pre .1 .1 .0) (b .pre .1 .1 .1)),
       )
 
   operation-unary-requires : operation-lts.Need-unary-requires (operation-calls t) (operation-at t) operation.Post
@@ -370,21 +392,17 @@ module _ (t : ℕ) where
 
   operation-returns : operation-lts.Need-returns (operation-calls t) (operation-at t) operation.Post
   operation-returns c =
-      let b = c .before .before .before .before .before .before .before .before .before in
-      λ p. unary-answer p (b .args .fresh) _ (c .before .before .before .operand-types .ensures) (b .pre .1 .1 .0)
+      let b = c .before .before .before .before .before .before in
+      λ p. unary-answer p (b .args .fresh) _ (c .before .before .before .operation-type .ensures _) (b .pre .1 .1 .0)
       (c .before .if1 .taken)
       (c .before .before .value-expression .ensures) (c .unary .ensures)
-
-  operation-array-read-value-expression-2 :
-      operation-lts.Need-array-read-value-expression-2 (operation-calls t) (operation-at t) operation.Post
-  operation-array-read-value-expression-2 c = search needs
 
   operation-value-expression-requires-2 :
       operation-lts.Need-value-expression-requires-2 (operation-calls t) (operation-at t) operation.Post
   operation-value-expression-requires-2 c κs =
-      let b = c .before .before .before .before .before .before .before .before in
+      let b = c .before .before .before .before .before in
       let p = b .pre .1 .0 in
-      let w = binary-view p _ (c .before .before .operand-types .ensures) (c .if1 .left) (b .pre .1 .1 .1) in (
+      let w = binary-view p _ (c .before .before .operation-type .ensures _) (c .if1 .left) (b .pre .1 .1 .1) in (
         omega (arith, b .pre .0, opened p .level-left),
         placed p (after-value p (b .args .fresh) (w .first) (c .before .value-expression .ensures) (w .second)),
       )
@@ -394,20 +412,20 @@ module _ (t : ℕ) where
 
   operation-returns-2 : operation-lts.Need-returns-2 (operation-calls t) (operation-at t) operation.Post
   operation-returns-2 c =
-      let b = c .before .before .before .before .before .before .before .before .before .before in
-      λ p. binary-answer p (b .args .fresh) _ (c .before .before .before .before .operand-types .ensures)
+      let b = c .before .before .before .before .before .before .before in
+      λ p. binary-answer p (b .args .fresh) _ (c .before .before .before .before .operation-type .ensures _)
       (c .before .before .if1 .left) (b .pre .1 .1 .1)
       (c .before .before .before .value-expression .ensures) (c .before .value-expression2 .ensures) (c .binary .ensures)
 
   present-sub-below : present-lts.Need-sub-below (present-calls t) (present-at t) present.Post
-  present-sub-below c = opened (c .before .before .before .before .pre .1 .0) .level-left
+  present-sub-below c = opened (c .before .pre .1 .0) .level-left
 
   present-add-first : present-lts.Need-add-first (present-calls t) (present-at t) present.Post
-  present-add-first c = omega (arith, opened (c .before .before .before .before .pre .1 .0) .good .starts)
+  present-add-first c = omega (arith, opened (c .before .pre .1 .0) .good .starts)
 
   present-value-expression-requires : present-lts.Need-value-expression-requires (present-calls t) (present-at t) present.Post
   present-value-expression-requires c κs =
-      let b = c .before .before .before .before in
+      let b = c .before in
       let p = b .pre .1 .0 in
       let w = present-view p (b .pre .1 .1) in
       (omega (arith, b .pre .0, opened p .level-left), placed p (w .first))
@@ -415,9 +433,9 @@ module _ (t : ℕ) where
   present-is-true-requires : present-lts.Need-is-true-requires (present-calls t) (present-at t) present.Post
   present-is-true-requires c κs = search needs
 
-  present-value-expression-requires-2 : present-lts.Need-value-expression-requires-2 (present-calls t) (present-at t) present.Post
-  present-value-expression-requires-2 c κs =
-      let b = c .before .before .before .before .before .before .before in
+  present-value-by-kind-requires : present-lts.Need-value-by-kind-requires (present-calls t) (present-at t) present.Post
+  present-value-by-kind-requires c κs =
+      let b = c .before .before .before .before in
       let p = b .pre .1 .0 in
       let w = present-view p (b .pre .1 .1) in (
         omega (arith, b .pre .0, opened p .level-left),
@@ -426,22 +444,22 @@ module _ (t : ℕ) where
 
   present-skip-requires : present-lts.Need-skip-requires (present-calls t) (present-at t) present.Post
   present-skip-requires c κs =
-      let b = c .before .before .before .before .before .before .before .before in
+      let b = c .before .before .before .before .before in
       let p = b .pre .1 .0 in
       let w = present-view p (b .pre .1 .1) in
       let second = after-value p (b .args .fresh) (w .first) (c .before .before .before .value-expression .ensures) (w .second) in
-      readable p (after-value p (b .args .fresh) second (c .value-expression2 .ensures) (w .third))
+      readable p (after-value p (b .args .fresh) second (c .value-by-kind .ensures) (w .third))
 
   present-returns : present-lts.Need-returns (present-calls t) (present-at t) present.Post
   present-returns c =
-      let b = c .before .before .before .before .before .before .before .before .before in
+      let b = c .before .before .before .before .before .before in
       λ p. present-answer-first p (b .args .fresh) (b .pre .1 .1) (c .before .before .before .before .value-expression .ensures)
-      (sym (c .before .before .before .is-true .ensures) ∙ c .before .before .if1 .taken) (c .before .value-expression2 .ensures)
+      (sym (c .before .before .before .is-true .ensures) ∙ c .before .before .if1 .taken) (c .before .value-by-kind .ensures)
       (c .skip .ensures)
 
   present-skip-requires-2 : present-lts.Need-skip-requires-2 (present-calls t) (present-at t) present.Post
   present-skip-requires-2 c κs =
-      let b = c .before .before .before .before .before .before .before in
+      let b = c .before .before .before .before in
       let p = b .pre .1 .0 in
       let w = present-view p (b .pre .1 .1) in
       readable p (after-value p (b .args .fresh) (w .first) (c .before .before .value-expression .ensures) (w .second))
@@ -451,7 +469,7 @@ module _ (t : ℕ) where
 
   present-skip-requires-3 : present-lts.Need-skip-requires-3 (present-calls t) (present-at t) present.Post
   present-skip-requires-3 c κs =
-      let b = c .before .before .before .before .before .before .before .before .before .before in
+      let b = c .before .before .before .before .before .before .before in
       let p = b .pre .1 .0 in
       let w = present-view p (b .pre .1 .1) in
       let second = after-value p (b .args .fresh) (w .first) (c .before .before .before .before .before .value-expression .ensures)
@@ -460,15 +478,15 @@ module _ (t : ℕ) where
 
   present-returns-2 : present-lts.Need-returns-2 (present-calls t) (present-at t) present.Post
   present-returns-2 c =
-      let b = c .before .before .before .before .before .before .before .before .before .before .before in
+      let b = c .before .before .before .before .before .before .before .before in
       λ p. present-answer-unknown p (b .args .fresh) (b .pre .1 .1)
       (c .before .before .before .before .before .before .value-expression .ensures)
       (sym (c .before .before .is-unknown .ensures) ∙ c .before .if2 .taken) (c .before .before .before .skip2 .ensures)
       (c .skip3 .ensures)
 
-  present-value-expression-requires-3 : present-lts.Need-value-expression-requires-3 (present-calls t) (present-at t) present.Post
-  present-value-expression-requires-3 c κs =
-      let b = c .before .before .before .before .before .before .before .before .before .before in
+  present-value-by-kind-requires-2 : present-lts.Need-value-by-kind-requires-2 (present-calls t) (present-at t) present.Post
+  present-value-by-kind-requires-2 c κs =
+      let b = c .before .before .before .before .before .before .before in
       let p = b .pre .1 .0 in
       let w = present-view p (b .pre .1 .1) in
       let second = after-value p (b .args .fresh) (w .first) (c .before .before .before .before .before .value-expression .ensures)
@@ -479,22 +497,22 @@ module _ (t : ℕ) where
 
   present-returns-3 : present-lts.Need-returns-3 (present-calls t) (present-at t) present.Post
   present-returns-3 c =
-      let b = c .before .before .before .before .before .before .before .before .before .before .before in
+      let b = c .before .before .before .before .before .before .before .before in
       λ p. present-answer-second p (b .args .fresh) (b .pre .1 .1)
       (c .before .before .before .before .before .before .value-expression .ensures)
       (sym (c .before .before .before .before .before .is-true .ensures) ∙ c .before .before .before .before .if1 .left)
       (sym (c .before .before .is-unknown .ensures) ∙ c .before .if2 .left) (c .before .before .before .skip2 .ensures)
-      (c .value-expression3 .ensures)
+      (c .value-by-kind2 .ensures)
 
   reset-sub-below : reset-lts.Need-sub-below (reset-calls t) (reset-at t) reset.Post
-  reset-sub-below c = opened (c .before .before .before .before .pre .1 .0) .level-left
+  reset-sub-below c = opened (c .before .pre .1 .0) .level-left
 
   reset-add-first : reset-lts.Need-add-first (reset-calls t) (reset-at t) reset.Post
-  reset-add-first c = omega (arith, opened (c .before .before .before .before .pre .1 .0) .good .starts)
+  reset-add-first c = omega (arith, opened (c .before .pre .1 .0) .good .starts)
 
   reset-value-expression-requires : reset-lts.Need-value-expression-requires (reset-calls t) (reset-at t) reset.Post
   reset-value-expression-requires c κs =
-      let b = c .before .before .before .before in
+      let b = c .before in
       let p = b .pre .1 .0 in
       let w = reset-view p (b .pre .1 .1) in
       (omega (arith, b .pre .0, opened p .level-left), placed p (w .first))
@@ -504,23 +522,23 @@ module _ (t : ℕ) where
 
   reset-skip-requires : reset-lts.Need-skip-requires (reset-calls t) (reset-at t) reset.Post
   reset-skip-requires c κs =
-      let b = c .before .before .before .before .before .before .before in
+      let b = c .before .before .before .before in
       let p = b .pre .1 .0 in
       let w = reset-view p (b .pre .1 .1) in
       readable p (after-value p (b .args .fresh) (w .first) (c .before .before .value-expression .ensures) (w .second))
 
   reset-returns : reset-lts.Need-returns (reset-calls t) (reset-at t) reset.Post
   reset-returns c =
-      let b = c .before .before .before .before .before .before .before .before in
+      let b = c .before .before .before .before .before in
       λ p. reset-answer-unknown p (b .args .fresh) (b .pre .1 .1) (c .before .before .before .value-expression .ensures)
       (sym (c .before .before .is-unknown .ensures) ∙ c .before .if1 .taken) (c .skip .ensures)
 
   reset-is-true-requires : reset-lts.Need-is-true-requires (reset-calls t) (reset-at t) reset.Post
   reset-is-true-requires c κs = search needs
 
-  reset-value-expression-requires-2 : reset-lts.Need-value-expression-requires-2 (reset-calls t) (reset-at t) reset.Post
-  reset-value-expression-requires-2 c κs =
-      let b = c .before .before .before .before .before .before .before .before in
+  reset-value-by-kind-requires : reset-lts.Need-value-by-kind-requires (reset-calls t) (reset-at t) reset.Post
+  reset-value-by-kind-requires c κs =
+      let b = c .before .before .before .before .before in
       let p = b .pre .1 .0 in
       let w = reset-view p (b .pre .1 .1) in (
         omega (arith, b .pre .0, opened p .level-left),
@@ -529,37 +547,57 @@ module _ (t : ℕ) where
 
   reset-returns-2 : reset-lts.Need-returns-2 (reset-calls t) (reset-at t) reset.Post
   reset-returns-2 c =
-      let b = c .before .before .before .before .before .before .before .before .before in
+      let b = c .before .before .before .before .before .before in
       λ p. reset-answer p (b .args .fresh) (b .pre .1 .1) (c .before .before .before .before .value-expression .ensures)
       (sym (c .before .before .before .is-unknown .ensures) ∙ c .before .before .if1 .left) (c .before .is-true .ensures)
-      (c .value-expression2 .ensures)
+      (c .value-by-kind .ensures)
 
-pub +value-conditional+value-expression+value-fby+value-operation+value-present+value-reset-spec : {M : Type 1} → statement M
-+value-conditional+value-expression+value-fby+value-operation+value-present+value-reset-spec =
-    close μ-conditional μ-expression μ-fby μ-operation μ-present μ-reset
+  expression-shared-slice-read-if1 : expression-lts.Need-shared-slice-read-if1 (expression-calls t) (expression-at t) expression.Post
+  expression-shared-slice-read-if1 c = opened (c .before .before .pre .1) .good .starts
+
+  expression-value-leaf-requires : expression-lts.Need-value-leaf-requires (expression-calls t) (expression-at t) expression.Post
+  expression-value-leaf-requires c κs = leaf-of (c .before .before .before .pre .1) (c .if1 .taken)
+
+  expression-returns : expression-lts.Need-returns (expression-calls t) (expression-at t) expression.Post
+  expression-returns c =
+      let b = c .before .before .before .before in
+      λ p. c .value-leaf .ensures ∙ leaf-answer p (b .args .fresh) (c .before .if1 .taken)
+
+  expression-value-by-kind-requires : expression-lts.Need-value-by-kind-requires (expression-calls t) (expression-at t) expression.Post
+  expression-value-by-kind-requires c κs = let b = c .before .before .before in (omega (arith, b .pre .0), b .pre .1)
+
+  expression-returns-2 : expression-lts.Need-returns-2 (expression-calls t) (expression-at t) expression.Post
+  expression-returns-2 c = c .value-by-kind .ensures
+
+pub +value-by-kind+value-conditional+value-expression+value-fby+value-operation+value-present+value-reset-spec : {M : Type 1} → statement M
++value-by-kind+value-conditional+value-expression+value-fby+value-operation+value-present+value-reset-spec =
+    close μ-by-kind μ-conditional μ-expression μ-fby μ-operation μ-present μ-reset
+    (λ t. by-kind-lts.spec (by-kind-calls t) (by-kind-at t) by-kind.Post
+    (by-kind-shared-slice-read-match t) (by-kind-value-conditional-requires t) (by-kind-value-present-requires t)
+    (by-kind-value-reset-requires t) (by-kind-value-leaf-requires t) (by-kind-value-operation-requires t)
+    (by-kind-value-pre-requires t) (by-kind-value-fby-requires t) (by-kind-returns t) (by-kind-returns-2 t)
+    (by-kind-returns-3 t) (by-kind-returns-4 t) (by-kind-returns-5 t) (by-kind-returns-6 t) (by-kind-returns-7 t))
     (λ t. conditional-lts.spec (conditional-calls t) (conditional-at t) conditional.Post
     (conditional-sub-below t) (conditional-add-first t) (conditional-value-expression-requires t)
     (conditional-value-expression-requires-2 t) (conditional-value-expression-requires-3 t) (conditional-conditional-requires t)
     (conditional-returns t))
     (λ t. expression-lts.spec (expression-calls t) (expression-at t) expression.Post
-    (expression-shared-slice-read-match t) (expression-value-conditional-requires t) (expression-value-present-requires t)
-    (expression-value-reset-requires t) (expression-value-leaf-requires t) (expression-value-operation-requires t)
-    (expression-value-pre-requires t) (expression-value-fby-requires t) (expression-returns t) (expression-returns-2 t)
-    (expression-returns-3 t) (expression-returns-4 t) (expression-returns-5 t) (expression-returns-6 t) (expression-returns-7 t))
+    (expression-shared-slice-read-if1 t) (expression-value-leaf-requires t) (expression-returns t)
+    (expression-value-by-kind-requires t) (expression-returns-2 t))
     (λ t. fby-lts.spec (fby-calls t) (fby-at t) fby.Post
     (fby-sub-below t) (fby-add-first t) (fby-add-inner t) (fby-cell-at-requires t) (fby-started-requires t)
     (fby-enum-known-seen t) (fby-enum-told t) (fby-value-expression-requires t) (fby-skip-requires t) (fby-returns t)
     (fby-skip-requires-2 t) (fby-skip-requires-3 t) (fby-returns-2 t))
     (λ t. operation-lts.spec (operation-calls t) (operation-at t) operation.Post
-    (operation-shared-slice-read-kind t) (operation-operand-types-requires t) (operation-sub-below t) (operation-add-first t)
-    (operation-array-read-value-expression t) (operation-value-expression-requires t) (operation-unary-requires t)
-    (operation-returns t) (operation-array-read-value-expression-2 t) (operation-value-expression-requires-2 t)
+    (operation-shared-slice-read-kind t) (operation-operation-type-requires t) (operation-sub-below t) (operation-add-first t)
+    (operation-value-expression-requires t) (operation-unary-requires t)
+    (operation-returns t) (operation-value-expression-requires-2 t)
     (operation-binary-requires t) (operation-returns-2 t))
     (λ t. present-lts.spec (present-calls t) (present-at t) present.Post
     (present-sub-below t) (present-add-first t) (present-value-expression-requires t) (present-is-true-requires t)
-    (present-value-expression-requires-2 t) (present-skip-requires t) (present-returns t) (present-skip-requires-2 t)
-    (present-is-unknown-requires t) (present-skip-requires-3 t) (present-returns-2 t) (present-value-expression-requires-3 t)
+    (present-value-by-kind-requires t) (present-skip-requires t) (present-returns t) (present-skip-requires-2 t)
+    (present-is-unknown-requires t) (present-skip-requires-3 t) (present-returns-2 t) (present-value-by-kind-requires-2 t)
     (present-returns-3 t))
     (λ t. reset-lts.spec (reset-calls t) (reset-at t) reset.Post
     (reset-sub-below t) (reset-add-first t) (reset-value-expression-requires t) (reset-is-unknown-requires t)
-    (reset-skip-requires t) (reset-returns t) (reset-is-true-requires t) (reset-value-expression-requires-2 t) (reset-returns-2 t))
+    (reset-skip-requires t) (reset-returns t) (reset-is-true-requires t) (reset-value-by-kind-requires t) (reset-returns-2 t))

@@ -1,39 +1,42 @@
 -- The functions that advance an expression meet their contracts. The level falls from an expression to its operands; an expression
--- goes by its kind at the same level.
+-- goes by its kind at the same level, if it is no leaf.
 use Prim.Native.Nat.{ℕ, _<_, _+_, _*_}
 use mathlib.Core.Path.{sym, _∙_}
 use native.Mathlib.Omega.{arith}
 use borrow.Author.Needs.{needs}
 use borrow.Fn.Kinds.{In}
 use borrow.Fn.PlainCycle.{Measures, is, falls, and}
-use Rattle.expression.proofs.Views.{opened, whole, own-cell}
+use Rattle.expression.proofs.Views.{opened, whole, leaf-of, own-cell}
 use Rattle.expression.proofs.Views.{binary-view, conditional-view, present-view, reset-view, pre-view, fby-view}
 use Rattle.storing.proofs.Steps.{one-ready, two-ready, two-ready-2, three-ready, three-ready-2, three-ready-3}
 use Rattle.storing.proofs.Steps.{three-arm-2, three-arm-3, rest-ready-3}
 use Rattle.storing.proofs.Advancing.{leaf-advances, operation-ready, unary-advances, binary-advances, conditional-advances}
 use Rattle.storing.proofs.Advancing.{present-advances-first, present-advances-second, reset-advances, pre-advances, fby-advances}
+use Rattle.storing.proofs.advance.advance_by_kind.Reads as by-kind
+use Rattle.storing.proofs.advance.advance_by_kind.Kinds as by-kind-kinds
+use Rattle.storing.proofs.advance.+advance_by_kind+advance_conditional+advance_expression+advance_fby+advance_operation+advance_pre+advance_present+advance_reset.Lts-advance_by_kind as by-kind-lts
 use Rattle.storing.proofs.advance.advance_conditional.Reads as conditional
 use Rattle.storing.proofs.advance.advance_conditional.Kinds as conditional-kinds
-use Rattle.storing.proofs.advance.+advance_conditional+advance_expression+advance_fby+advance_operation+advance_pre+advance_present+advance_reset.Lts-advance_conditional as conditional-lts
+use Rattle.storing.proofs.advance.+advance_by_kind+advance_conditional+advance_expression+advance_fby+advance_operation+advance_pre+advance_present+advance_reset.Lts-advance_conditional as conditional-lts
 use Rattle.storing.proofs.advance.advance_expression.Reads as expression
 use Rattle.storing.proofs.advance.advance_expression.Kinds as expression-kinds
-use Rattle.storing.proofs.advance.+advance_conditional+advance_expression+advance_fby+advance_operation+advance_pre+advance_present+advance_reset.Lts-advance_expression as expression-lts
+use Rattle.storing.proofs.advance.+advance_by_kind+advance_conditional+advance_expression+advance_fby+advance_operation+advance_pre+advance_present+advance_reset.Lts-advance_expression as expression-lts
 use Rattle.storing.proofs.advance.advance_fby.Reads as fby
 use Rattle.storing.proofs.advance.advance_fby.Kinds as fby-kinds
-use Rattle.storing.proofs.advance.+advance_conditional+advance_expression+advance_fby+advance_operation+advance_pre+advance_present+advance_reset.Lts-advance_fby as fby-lts
+use Rattle.storing.proofs.advance.+advance_by_kind+advance_conditional+advance_expression+advance_fby+advance_operation+advance_pre+advance_present+advance_reset.Lts-advance_fby as fby-lts
 use Rattle.storing.proofs.advance.advance_operation.Reads as operation
 use Rattle.storing.proofs.advance.advance_operation.Kinds as operation-kinds
-use Rattle.storing.proofs.advance.+advance_conditional+advance_expression+advance_fby+advance_operation+advance_pre+advance_present+advance_reset.Lts-advance_operation as operation-lts
+use Rattle.storing.proofs.advance.+advance_by_kind+advance_conditional+advance_expression+advance_fby+advance_operation+advance_pre+advance_present+advance_reset.Lts-advance_operation as operation-lts
 use Rattle.storing.proofs.advance.advance_pre.Reads as pre
 use Rattle.storing.proofs.advance.advance_pre.Kinds as pre-kinds
-use Rattle.storing.proofs.advance.+advance_conditional+advance_expression+advance_fby+advance_operation+advance_pre+advance_present+advance_reset.Lts-advance_pre as pre-lts
+use Rattle.storing.proofs.advance.+advance_by_kind+advance_conditional+advance_expression+advance_fby+advance_operation+advance_pre+advance_present+advance_reset.Lts-advance_pre as pre-lts
 use Rattle.storing.proofs.advance.advance_present.Reads as present
 use Rattle.storing.proofs.advance.advance_present.Kinds as present-kinds
-use Rattle.storing.proofs.advance.+advance_conditional+advance_expression+advance_fby+advance_operation+advance_pre+advance_present+advance_reset.Lts-advance_present as present-lts
+use Rattle.storing.proofs.advance.+advance_by_kind+advance_conditional+advance_expression+advance_fby+advance_operation+advance_pre+advance_present+advance_reset.Lts-advance_present as present-lts
 use Rattle.storing.proofs.advance.advance_reset.Reads as reset
 use Rattle.storing.proofs.advance.advance_reset.Kinds as reset-kinds
-use Rattle.storing.proofs.advance.+advance_conditional+advance_expression+advance_fby+advance_operation+advance_pre+advance_present+advance_reset.Lts-advance_reset as reset-lts
-use Rattle.expression.proofs.value.value_expression.Reads as value-expression-reads
+use Rattle.storing.proofs.advance.+advance_by_kind+advance_conditional+advance_expression+advance_fby+advance_operation+advance_pre+advance_present+advance_reset.Lts-advance_reset as reset-lts
+use Rattle.expression.proofs.leaf.value_leaf.Reads as value-leaf-reads
 use Rattle.operations.proofs.binary.Reads as binary-reads
 use Rattle.operations.proofs.conditional.Reads as conditional-reads
 use Rattle.operations.proofs.datum_in.Reads as datum-in-reads
@@ -44,77 +47,86 @@ use Rattle.operations.proofs.unary.Reads as unary-reads
 use Rattle.sheet.proofs.bodies.body_at.Reads as body-at-reads
 use Rattle.sheet.proofs.data.datum_of.Reads as datum-of-reads
 use Rattle.sheet.proofs.kinds.body.Reads as body-reads
-use Rattle.sheet.proofs.kinds.operand_types.Reads as operand-types-reads
+use Rattle.sheet.proofs.kinds.operation_type.Reads as operation-type-reads
 use Rattle.sheet.proofs.memory.cell_at.Reads as cell-at-reads
 use Rattle.sheet.proofs.memory.put_cell.Reads as put-cell-reads
 use Rattle.storing.proofs.advance.held_or.Reads as held-or-reads
 use Rattle.storing.proofs.advance.under.Reads as under-reads
 use Rattle.storing.proofs.rest.rest.Reads as rest-reads
-use Rattle.storing.proofs.advance.+advance_conditional+advance_expression+advance_fby+advance_operation+advance_pre+advance_present+advance_reset.{statement}
-use Rattle.storing.proofs.advance.+advance_conditional+advance_expression+advance_fby+advance_operation+advance_pre+advance_present+advance_reset.Tie.{close}
+use Rattle.storing.proofs.advance.+advance_by_kind+advance_conditional+advance_expression+advance_fby+advance_operation+advance_pre+advance_present+advance_reset.{statement}
+use Rattle.storing.proofs.advance.+advance_by_kind+advance_conditional+advance_expression+advance_fby+advance_operation+advance_pre+advance_present+advance_reset.Tie.{close}
 
-abbrev μ-conditional : Measures 4 conditional-kinds.ps ℕ
-μ-conditional κs a = 2 * a .1 .1 .1 .1 .1 .0
+abbrev μ-by-kind : Measures 5 by-kind-kinds.ps ℕ
+μ-by-kind κs a = 3 * a .1 .1 .1 .1 .1 .0 + 1
 
-abbrev μ-expression : Measures 4 expression-kinds.ps ℕ
-μ-expression κs a = 2 * a .1 .1 .1 .1 .1 .0 + 1
+abbrev μ-conditional : Measures 5 conditional-kinds.ps ℕ
+μ-conditional κs a = 3 * a .1 .1 .1 .1 .1 .0
 
-abbrev μ-fby : Measures 4 fby-kinds.ps ℕ
-μ-fby κs a = 2 * a .1 .1 .1 .1 .1 .0
+abbrev μ-expression : Measures 5 expression-kinds.ps ℕ
+μ-expression κs a = 3 * a .1 .1 .1 .1 .1 .0 + 2
 
-abbrev μ-operation : Measures 4 operation-kinds.ps ℕ
-μ-operation κs a = 2 * a .1 .1 .1 .1 .1 .0
+abbrev μ-fby : Measures 5 fby-kinds.ps ℕ
+μ-fby κs a = 3 * a .1 .1 .1 .1 .1 .0
 
-abbrev μ-pre : Measures 4 pre-kinds.ps ℕ
-μ-pre κs a = 2 * a .1 .1 .1 .1 .1 .0
+abbrev μ-operation : Measures 5 operation-kinds.ps ℕ
+μ-operation κs a = 3 * a .1 .1 .1 .1 .1 .0
 
-abbrev μ-present : Measures 4 present-kinds.ps ℕ
-μ-present κs a = 2 * a .1 .1 .1 .1 .1 .0
+abbrev μ-pre : Measures 5 pre-kinds.ps ℕ
+μ-pre κs a = 3 * a .1 .1 .1 .1 .1 .0
 
-abbrev μ-reset : Measures 4 reset-kinds.ps ℕ
-μ-reset κs a = 2 * a .1 .1 .1 .1 .1 .0
+abbrev μ-present : Measures 5 present-kinds.ps ℕ
+μ-present κs a = 3 * a .1 .1 .1 .1 .1 .0
 
-abbrev conditional-at : ℕ → In 4 conditional-kinds.ps
-conditional-at t = and 4 conditional-kinds.ps (is 4 conditional-kinds.ps μ-conditional t) conditional.Pre
+abbrev μ-reset : Measures 5 reset-kinds.ps ℕ
+μ-reset κs a = 3 * a .1 .1 .1 .1 .1 .0
 
-abbrev conditional-below : ℕ → In 4 conditional-kinds.ps
-conditional-below t = and 4 conditional-kinds.ps (falls 4 conditional-kinds.ps _<_ μ-conditional t) conditional.Pre
+abbrev by-kind-at : ℕ → In 5 by-kind-kinds.ps
+by-kind-at t = and 5 by-kind-kinds.ps (is 5 by-kind-kinds.ps μ-by-kind t) by-kind.Pre
 
-abbrev expression-at : ℕ → In 4 expression-kinds.ps
-expression-at t = and 4 expression-kinds.ps (is 4 expression-kinds.ps μ-expression t) expression.Pre
+abbrev by-kind-below : ℕ → In 5 by-kind-kinds.ps
+by-kind-below t = and 5 by-kind-kinds.ps (falls 5 by-kind-kinds.ps _<_ μ-by-kind t) by-kind.Pre
 
-abbrev expression-below : ℕ → In 4 expression-kinds.ps
-expression-below t = and 4 expression-kinds.ps (falls 4 expression-kinds.ps _<_ μ-expression t) expression.Pre
+abbrev conditional-at : ℕ → In 5 conditional-kinds.ps
+conditional-at t = and 5 conditional-kinds.ps (is 5 conditional-kinds.ps μ-conditional t) conditional.Pre
 
-abbrev fby-at : ℕ → In 4 fby-kinds.ps
-fby-at t = and 4 fby-kinds.ps (is 4 fby-kinds.ps μ-fby t) fby.Pre
+abbrev conditional-below : ℕ → In 5 conditional-kinds.ps
+conditional-below t = and 5 conditional-kinds.ps (falls 5 conditional-kinds.ps _<_ μ-conditional t) conditional.Pre
 
-abbrev fby-below : ℕ → In 4 fby-kinds.ps
-fby-below t = and 4 fby-kinds.ps (falls 4 fby-kinds.ps _<_ μ-fby t) fby.Pre
+abbrev expression-at : ℕ → In 5 expression-kinds.ps
+expression-at t = and 5 expression-kinds.ps (is 5 expression-kinds.ps μ-expression t) expression.Pre
 
-abbrev operation-at : ℕ → In 4 operation-kinds.ps
-operation-at t = and 4 operation-kinds.ps (is 4 operation-kinds.ps μ-operation t) operation.Pre
+abbrev expression-below : ℕ → In 5 expression-kinds.ps
+expression-below t = and 5 expression-kinds.ps (falls 5 expression-kinds.ps _<_ μ-expression t) expression.Pre
 
-abbrev operation-below : ℕ → In 4 operation-kinds.ps
-operation-below t = and 4 operation-kinds.ps (falls 4 operation-kinds.ps _<_ μ-operation t) operation.Pre
+abbrev fby-at : ℕ → In 5 fby-kinds.ps
+fby-at t = and 5 fby-kinds.ps (is 5 fby-kinds.ps μ-fby t) fby.Pre
 
-abbrev pre-at : ℕ → In 4 pre-kinds.ps
-pre-at t = and 4 pre-kinds.ps (is 4 pre-kinds.ps μ-pre t) pre.Pre
+abbrev fby-below : ℕ → In 5 fby-kinds.ps
+fby-below t = and 5 fby-kinds.ps (falls 5 fby-kinds.ps _<_ μ-fby t) fby.Pre
 
-abbrev pre-below : ℕ → In 4 pre-kinds.ps
-pre-below t = and 4 pre-kinds.ps (falls 4 pre-kinds.ps _<_ μ-pre t) pre.Pre
+abbrev operation-at : ℕ → In 5 operation-kinds.ps
+operation-at t = and 5 operation-kinds.ps (is 5 operation-kinds.ps μ-operation t) operation.Pre
 
-abbrev present-at : ℕ → In 4 present-kinds.ps
-present-at t = and 4 present-kinds.ps (is 4 present-kinds.ps μ-present t) present.Pre
+abbrev operation-below : ℕ → In 5 operation-kinds.ps
+operation-below t = and 5 operation-kinds.ps (falls 5 operation-kinds.ps _<_ μ-operation t) operation.Pre
 
-abbrev present-below : ℕ → In 4 present-kinds.ps
-present-below t = and 4 present-kinds.ps (falls 4 present-kinds.ps _<_ μ-present t) present.Pre
+abbrev pre-at : ℕ → In 5 pre-kinds.ps
+pre-at t = and 5 pre-kinds.ps (is 5 pre-kinds.ps μ-pre t) pre.Pre
 
-abbrev reset-at : ℕ → In 4 reset-kinds.ps
-reset-at t = and 4 reset-kinds.ps (is 4 reset-kinds.ps μ-reset t) reset.Pre
+abbrev pre-below : ℕ → In 5 pre-kinds.ps
+pre-below t = and 5 pre-kinds.ps (falls 5 pre-kinds.ps _<_ μ-pre t) pre.Pre
 
-abbrev reset-below : ℕ → In 4 reset-kinds.ps
-reset-below t = and 4 reset-kinds.ps (falls 4 reset-kinds.ps _<_ μ-reset t) reset.Pre
+abbrev present-at : ℕ → In 5 present-kinds.ps
+present-at t = and 5 present-kinds.ps (is 5 present-kinds.ps μ-present t) present.Pre
+
+abbrev present-below : ℕ → In 5 present-kinds.ps
+present-below t = and 5 present-kinds.ps (falls 5 present-kinds.ps _<_ μ-present t) present.Pre
+
+abbrev reset-at : ℕ → In 5 reset-kinds.ps
+reset-at t = and 5 reset-kinds.ps (is 5 reset-kinds.ps μ-reset t) reset.Pre
+
+abbrev reset-below : ℕ → In 5 reset-kinds.ps
+reset-below t = and 5 reset-kinds.ps (falls 5 reset-kinds.ps _<_ μ-reset t) reset.Pre
 
 abbrev conditional-calls : ℕ → conditional-lts.Claims
 conditional-calls t = (
@@ -126,14 +138,22 @@ conditional-calls t = (
 
 abbrev expression-calls : ℕ → expression-lts.Claims
 expression-calls t = (
+  value-leaf-reads.Asked,
+  value-leaf-reads.Learnt,
+  by-kind-below t,
+  by-kind.Post,
+)
+
+abbrev by-kind-calls : ℕ → by-kind-lts.Claims
+by-kind-calls t = (
   conditional-below t,
   conditional.Post,
   present-below t,
   present.Post,
   reset-below t,
   reset.Post,
-  value-expression-reads.Asked,
-  value-expression-reads.Learnt,
+  value-leaf-reads.Asked,
+  value-leaf-reads.Learnt,
   operation-below t,
   operation.Post,
   pre-below t,
@@ -160,8 +180,8 @@ fby-calls t = (
 
 abbrev operation-calls : ℕ → operation-lts.Claims
 operation-calls t = (
-  operand-types-reads.Asked,
-  operand-types-reads.Learnt,
+  operation-type-reads.Asked,
+  operation-type-reads.Learnt,
   expression-below t,
   expression.Post,
   unary-reads.Asked,
@@ -196,6 +216,8 @@ present-calls t = (
   expression.Post,
   is-true-reads.Asked,
   is-true-reads.Learnt,
+  by-kind-below t,
+  by-kind.Post,
   rest-reads.Asked,
   rest-reads.Learnt,
   under-reads.Asked,
@@ -208,21 +230,23 @@ reset-calls t = (
   expression.Post,
   is-true-reads.Asked,
   is-true-reads.Learnt,
+  by-kind-below t,
+  by-kind.Post,
   under-reads.Asked,
   under-reads.Learnt,
 )
 
 module _ (t : ℕ) where
   conditional-sub-below : conditional-lts.Need-sub-below (conditional-calls t) (conditional-at t) conditional.Post
-  conditional-sub-below c = opened (c .before .before .before .before .pre .1 .0 .place) .level-left
+  conditional-sub-below c = opened (c .before .before .pre .1 .0 .place) .level-left
 
   conditional-add-first : conditional-lts.Need-add-first (conditional-calls t) (conditional-at t) conditional.Post
-  conditional-add-first c = omega (arith, opened (c .before .before .before .before .pre .1 .0 .place) .good .starts)
+  conditional-add-first c = omega (arith, opened (c .before .before .pre .1 .0 .place) .good .starts)
 
   conditional-advance-expression-requires :
       conditional-lts.Need-advance-expression-requires (conditional-calls t) (conditional-at t) conditional.Post
   conditional-advance-expression-requires c κs =
-      let start = c .before .before .before .before .before in
+      let start = c .before .before .before in
       let p = start .pre .1 .0 in
       let w = conditional-view (p .place) (start .pre .1 .1) in
       (omega (arith, start .pre .0, opened (p .place) .level-left), three-ready p w)
@@ -231,7 +255,7 @@ module _ (t : ℕ) where
       conditional-lts.Need-advance-expression-requires-2 (conditional-calls t) (conditional-at t) conditional.Post
   conditional-advance-expression-requires-2 c κs =
       let first = c .before .before .before in
-      let start = first .before .before .before .before .before .before in
+      let start = first .before .before .before .before in
       let p = start .pre .1 .0 in
       let w = conditional-view (p .place) (start .pre .1 .1) in
       (omega (arith, start .pre .0, opened (p .place) .level-left), three-ready-2 p w (first .advance-expression .ensures))
@@ -241,7 +265,7 @@ module _ (t : ℕ) where
   conditional-advance-expression-requires-3 c κs =
       let second = c .before .before .before in
       let first = second .before .before .before .before in
-      let start = first .before .before .before .before .before .before in
+      let start = first .before .before .before .before in
       let p = start .pre .1 .0 in
       let w = conditional-view (p .place) (start .pre .1 .1) in (
         omega (arith, start .pre .0, opened (p .place) .level-left),
@@ -264,109 +288,105 @@ module _ (t : ℕ) where
       let third = c .before .before .before in
       let second = third .before .before .before .before in
       let first = second .before .before .before .before in
-      let start = first .before .before .before .before .before .before in
+      let start = first .before .before .before .before in
       λ p. conditional-advances p (start .args .fresh) (start .pre .1 .1)
       (first .advance-expression .ensures) (second .advance-expression2 .ensures) (third .advance-expression3 .ensures)
       (c .conditional .ensures)
 
-  expression-shared-slice-read-match : expression-lts.Need-shared-slice-read-match (expression-calls t) (expression-at t) expression.Post
-  expression-shared-slice-read-match c = opened (c .before .before .before .before .before .pre .1 .place) .good .starts
+  by-kind-shared-slice-read-match : by-kind-lts.Need-shared-slice-read-match (by-kind-calls t) (by-kind-at t) by-kind.Post
+  by-kind-shared-slice-read-match c = opened (c .before .before .before .pre .1 .place) .good .starts
 
-  expression-advance-conditional-requires :
-      expression-lts.Need-advance-conditional-requires (expression-calls t) (expression-at t) expression.Post
-  expression-advance-conditional-requires c κs =
+  by-kind-advance-conditional-requires :
+      by-kind-lts.Need-advance-conditional-requires (by-kind-calls t) (by-kind-at t) by-kind.Post
+  by-kind-advance-conditional-requires c κs =
       let by = c .before in
-      let start = by .before .before .before .before .before .before in
+      let start = by .before .before .before .before in
       (omega (arith, start .pre .0), (start .pre .1, by .match .keys1))
 
-  expression-advance-present-requires : expression-lts.Need-advance-present-requires (expression-calls t) (expression-at t) expression.Post
-  expression-advance-present-requires c κs =
+  by-kind-advance-present-requires : by-kind-lts.Need-advance-present-requires (by-kind-calls t) (by-kind-at t) by-kind.Post
+  by-kind-advance-present-requires c κs =
       let by = c .before in
-      let start = by .before .before .before .before .before .before in
+      let start = by .before .before .before .before in
       (omega (arith, start .pre .0), (start .pre .1, by .match .keys2))
 
-  expression-advance-reset-requires : expression-lts.Need-advance-reset-requires (expression-calls t) (expression-at t) expression.Post
-  expression-advance-reset-requires c κs =
+  by-kind-advance-reset-requires : by-kind-lts.Need-advance-reset-requires (by-kind-calls t) (by-kind-at t) by-kind.Post
+  by-kind-advance-reset-requires c κs =
       let by = c .before in
-      let start = by .before .before .before .before .before .before in
+      let start = by .before .before .before .before in
       (omega (arith, start .pre .0), (start .pre .1, by .match .keys3))
 
-  expression-value-expression-requires :
-      expression-lts.Need-value-expression-requires (expression-calls t) (expression-at t) expression.Post
-  expression-value-expression-requires c κs = c .before .before .before .before .before .before .before .before .pre .1 .place
+  by-kind-value-leaf-requires : by-kind-lts.Need-value-leaf-requires (by-kind-calls t) (by-kind-at t) by-kind.Post
+  by-kind-value-leaf-requires c κs = leaf-of (c .before .before .before .before .before .pre .1 .place) (omega arith)
 
-  expression-advance-operation-requires :
-      expression-lts.Need-advance-operation-requires (expression-calls t) (expression-at t) expression.Post
-  expression-advance-operation-requires c κs =
-      let start = c .before .before .before .before .before .before .before .before .before in
+  by-kind-advance-operation-requires :
+      by-kind-lts.Need-advance-operation-requires (by-kind-calls t) (by-kind-at t) by-kind.Post
+  by-kind-advance-operation-requires c κs =
+      let start = c .before .before .before .before .before .before .before in
       (omega (arith, start .pre .0), (start .pre .1, search needs))
 
-  expression-advance-pre-requires : expression-lts.Need-advance-pre-requires (expression-calls t) (expression-at t) expression.Post
-  expression-advance-pre-requires c κs =
-      let start = c .before .before .before .before .before .before .before .before .before .before in
+  by-kind-advance-pre-requires : by-kind-lts.Need-advance-pre-requires (by-kind-calls t) (by-kind-at t) by-kind.Post
+  by-kind-advance-pre-requires c κs =
+      let start = c .before .before .before .before .before .before .before .before in
       (omega (arith, start .pre .0), (start .pre .1, search needs))
 
-  expression-advance-fby-requires : expression-lts.Need-advance-fby-requires (expression-calls t) (expression-at t) expression.Post
-  expression-advance-fby-requires c κs =
-      let start = c .before .before .before .before .before .before .before .before .before .before in
+  by-kind-advance-fby-requires : by-kind-lts.Need-advance-fby-requires (by-kind-calls t) (by-kind-at t) by-kind.Post
+  by-kind-advance-fby-requires c κs =
+      let start = c .before .before .before .before .before .before .before .before in
       (omega (arith, start .pre .0), (start .pre .1, omega (arith, opened (start .pre .1 .place) .good .kind)))
 
-  expression-same-length : expression-lts.Need-same-length (expression-calls t) (expression-at t) expression.Post
-  expression-same-length c = c .before .before .advance-conditional .kept .1 .1 .0
+  by-kind-same-length : by-kind-lts.Need-same-length (by-kind-calls t) (by-kind-at t) by-kind.Post
+  by-kind-same-length c = c .before .before .advance-conditional .kept .1 .1 .0
 
-  expression-returns : expression-lts.Need-returns (expression-calls t) (expression-at t) expression.Post
-  expression-returns c = c .before .before .advance-conditional .ensures
+  by-kind-returns : by-kind-lts.Need-returns (by-kind-calls t) (by-kind-at t) by-kind.Post
+  by-kind-returns c = c .before .before .advance-conditional .ensures
 
-  expression-same-length-2 : expression-lts.Need-same-length-2 (expression-calls t) (expression-at t) expression.Post
-  expression-same-length-2 c = c .before .before .advance-present .kept .1 .1 .0
+  by-kind-same-length-2 : by-kind-lts.Need-same-length-2 (by-kind-calls t) (by-kind-at t) by-kind.Post
+  by-kind-same-length-2 c = c .before .before .advance-present .kept .1 .1 .0
 
-  expression-returns-2 : expression-lts.Need-returns-2 (expression-calls t) (expression-at t) expression.Post
-  expression-returns-2 c = c .before .before .advance-present .ensures
+  by-kind-returns-2 : by-kind-lts.Need-returns-2 (by-kind-calls t) (by-kind-at t) by-kind.Post
+  by-kind-returns-2 c = c .before .before .advance-present .ensures
 
-  expression-same-length-3 : expression-lts.Need-same-length-3 (expression-calls t) (expression-at t) expression.Post
-  expression-same-length-3 c = c .before .before .advance-reset .kept .1 .1 .0
+  by-kind-same-length-3 : by-kind-lts.Need-same-length-3 (by-kind-calls t) (by-kind-at t) by-kind.Post
+  by-kind-same-length-3 c = c .before .before .advance-reset .kept .1 .1 .0
 
-  expression-returns-3 : expression-lts.Need-returns-3 (expression-calls t) (expression-at t) expression.Post
-  expression-returns-3 c = c .before .before .advance-reset .ensures
+  by-kind-returns-3 : by-kind-lts.Need-returns-3 (by-kind-calls t) (by-kind-at t) by-kind.Post
+  by-kind-returns-3 c = c .before .before .advance-reset .ensures
 
-  expression-same-length-4 : expression-lts.Need-same-length-4 (expression-calls t) (expression-at t) expression.Post
-  expression-same-length-4 c = search needs
+  by-kind-returns-4 : by-kind-lts.Need-returns-4 (by-kind-calls t) (by-kind-at t) by-kind.Post
+  by-kind-returns-4 c =
+      let start = c .before .before .before .before .before .before in
+      λ p. leaf-advances p (start .args .fresh) (omega arith) (c .value-leaf .ensures)
 
-  expression-returns-4 : expression-lts.Need-returns-4 (expression-calls t) (expression-at t) expression.Post
-  expression-returns-4 c =
-      let start = c .before .before .before .before .before .before .before .before .before in
-      λ p. leaf-advances p (start .args .fresh) (search needs) (c .value-expression .ensures (p .place))
+  by-kind-same-length-4 : by-kind-lts.Need-same-length-4 (by-kind-calls t) (by-kind-at t) by-kind.Post
+  by-kind-same-length-4 c = c .before .before .advance-operation .kept .1 .1 .0
 
-  expression-same-length-5 : expression-lts.Need-same-length-5 (expression-calls t) (expression-at t) expression.Post
-  expression-same-length-5 c = c .before .before .advance-operation .kept .1 .1 .0
+  by-kind-returns-5 : by-kind-lts.Need-returns-5 (by-kind-calls t) (by-kind-at t) by-kind.Post
+  by-kind-returns-5 c = c .before .before .advance-operation .ensures
 
-  expression-returns-5 : expression-lts.Need-returns-5 (expression-calls t) (expression-at t) expression.Post
-  expression-returns-5 c = c .before .before .advance-operation .ensures
+  by-kind-same-length-5 : by-kind-lts.Need-same-length-5 (by-kind-calls t) (by-kind-at t) by-kind.Post
+  by-kind-same-length-5 c = c .before .before .advance-pre .kept .1 .1 .0
 
-  expression-same-length-6 : expression-lts.Need-same-length-6 (expression-calls t) (expression-at t) expression.Post
-  expression-same-length-6 c = c .before .before .advance-pre .kept .1 .1 .0
+  by-kind-returns-6 : by-kind-lts.Need-returns-6 (by-kind-calls t) (by-kind-at t) by-kind.Post
+  by-kind-returns-6 c = c .before .before .advance-pre .ensures
 
-  expression-returns-6 : expression-lts.Need-returns-6 (expression-calls t) (expression-at t) expression.Post
-  expression-returns-6 c = c .before .before .advance-pre .ensures
+  by-kind-same-length-6 : by-kind-lts.Need-same-length-6 (by-kind-calls t) (by-kind-at t) by-kind.Post
+  by-kind-same-length-6 c = c .before .before .advance-fby .kept .1 .1 .0
 
-  expression-same-length-7 : expression-lts.Need-same-length-7 (expression-calls t) (expression-at t) expression.Post
-  expression-same-length-7 c = c .before .before .advance-fby .kept .1 .1 .0
-
-  expression-returns-7 : expression-lts.Need-returns-7 (expression-calls t) (expression-at t) expression.Post
-  expression-returns-7 c = c .before .before .advance-fby .ensures
+  by-kind-returns-7 : by-kind-lts.Need-returns-7 (by-kind-calls t) (by-kind-at t) by-kind.Post
+  by-kind-returns-7 c = c .before .before .advance-fby .ensures
 
   fby-sub-below : fby-lts.Need-sub-below (fby-calls t) (fby-at t) fby.Post
-  fby-sub-below c = opened (c .before .before .before .before .pre .1 .0 .place) .level-left
+  fby-sub-below c = opened (c .before .before .pre .1 .0 .place) .level-left
 
   fby-add-first : fby-lts.Need-add-first (fby-calls t) (fby-at t) fby.Post
-  fby-add-first c = omega (arith, opened (c .before .before .before .before .pre .1 .0 .place) .good .starts)
+  fby-add-first c = omega (arith, opened (c .before .before .pre .1 .0 .place) .good .starts)
 
   fby-add-inner : fby-lts.Need-add-inner (fby-calls t) (fby-at t) fby.Post
-  fby-add-inner c = omega (arith, opened (c .before .before .before .before .pre .1 .0 .place) .good .cells)
+  fby-add-inner c = omega (arith, opened (c .before .before .pre .1 .0 .place) .good .cells)
 
   fby-cell-at-requires : fby-lts.Need-cell-at-requires (fby-calls t) (fby-at t) fby.Post
   fby-cell-at-requires c κs =
-      let start = c .before .before .before .before .before in
+      let start = c .before .before .before in
       own-cell (start .pre .1 .0 .place) (omega (arith, start .pre .1 .1)) .stands .fits
 
   fby-started-requires : fby-lts.Need-started-requires (fby-calls t) (fby-at t) fby.Post
@@ -374,7 +394,7 @@ module _ (t : ℕ) where
 
   fby-advance-expression-requires : fby-lts.Need-advance-expression-requires (fby-calls t) (fby-at t) fby.Post
   fby-advance-expression-requires c κs =
-      let start = c .before .before .before .before .before .before .before .before in
+      let start = c .before .before .before .before .before .before in
       let p = start .pre .1 .0 in
       let w = fby-view (p .place) (start .pre .1 .1) in
       (omega (arith, start .pre .0, opened (p .place) .level-left), two-ready p w)
@@ -382,7 +402,7 @@ module _ (t : ℕ) where
   fby-advance-expression-requires-2 : fby-lts.Need-advance-expression-requires-2 (fby-calls t) (fby-at t) fby.Post
   fby-advance-expression-requires-2 c κs =
       let first = c .before .before .before in
-      let start = first .before .before .before .before .before .before .before .before .before in
+      let start = first .before .before .before .before .before .before .before in
       let p = start .pre .1 .0 in
       let w = fby-view (p .place) (start .pre .1 .1) in
       (omega (arith, start .pre .0, opened (p .place) .level-left), two-ready-2 p w (first .advance-expression .ensures))
@@ -394,7 +414,7 @@ module _ (t : ℕ) where
   fby-put-cell-requires c κs =
       let second = c .before .before .before .before in
       let first = second .before .before .before .before in
-      let start = first .before .before .before .before .before .before .before .before .before in
+      let start = first .before .before .before .before .before .before .before in
       let own = own-cell (start .pre .1 .0 .place) (omega (arith, start .pre .1 .1)) in
       omega (arith, own .stands .fits, second .advance-expression2 .kept .1 .1 .0, first .advance-expression .kept .1 .1 .0)
 
@@ -416,34 +436,30 @@ module _ (t : ℕ) where
       let first = second .before .before .before .before in
       let seen = first .before .before in
       let read = seen .before in
-      let start = read .before .before .before .before .before .before in
+      let start = read .before .before .before .before in
       λ p. fby-advances p (start .args .fresh) (start .pre .1 .1)
       (read .cell-at .ensures) (seen .started .ensures) (first .advance-expression .ensures) (second .advance-expression2 .ensures)
       (datum .datum-in .ensures) (put .put-cell .ensures) (c .held-or .ensures)
 
   operation-shared-slice-read-kind : operation-lts.Need-shared-slice-read-kind (operation-calls t) (operation-at t) operation.Post
-  operation-shared-slice-read-kind c = opened (c .before .before .before .before .before .pre .1 .0 .place) .good .starts
+  operation-shared-slice-read-kind c = opened (c .before .before .before .pre .1 .0 .place) .good .starts
 
-  operation-operand-types-requires : operation-lts.Need-operand-types-requires (operation-calls t) (operation-at t) operation.Post
-  operation-operand-types-requires c κs = opened (c .before .before .before .before .before .pre .1 .0 .place) .good .kind
+  operation-operation-type-requires : operation-lts.Need-operation-type-requires (operation-calls t) (operation-at t) operation.Post
+  operation-operation-type-requires c κs = c .before .before .before .pre .1 .1
 
   operation-sub-below : operation-lts.Need-sub-below (operation-calls t) (operation-at t) operation.Post
-  operation-sub-below c = opened (c .before .before .before .before .before .before .pre .1 .0 .place) .level-left
+  operation-sub-below c = opened (c .before .before .before .before .pre .1 .0 .place) .level-left
 
   operation-add-first : operation-lts.Need-add-first (operation-calls t) (operation-at t) operation.Post
-  operation-add-first c = omega (arith, opened (c .before .before .before .before .before .before .pre .1 .0 .place) .good .starts)
-
-  operation-array-read-advance-expression :
-      operation-lts.Need-array-read-advance-expression (operation-calls t) (operation-at t) operation.Post
-  operation-array-read-advance-expression c = search needs
+  operation-add-first c = omega (arith, opened (c .before .before .before .before .pre .1 .0 .place) .good .starts)
 
   operation-advance-expression-requires :
       operation-lts.Need-advance-expression-requires (operation-calls t) (operation-at t) operation.Post
   operation-advance-expression-requires c κs =
       let types = c .before in
-      let start = types .before .before .before .before .before .before in
+      let start = types .before .before .before .before in
       let p = start .pre .1 .0 in
-      let first = operation-ready p (start .args .fresh) _ (types .operand-types .ensures) (start .pre .1 .1 .0) (start .pre .1 .1 .1) in
+      let first = operation-ready p (start .args .fresh) _ (types .operation-type .ensures _) (start .pre .1 .1 .0) (start .pre .1 .1 .1) in
       (omega (arith, start .pre .0, opened (p .place) .level-left), first)
 
   operation-unary-requires : operation-lts.Need-unary-requires (operation-calls t) (operation-at t) operation.Post
@@ -457,13 +473,9 @@ module _ (t : ℕ) where
       let test = c .before in
       let first = test .before .before .before in
       let types = first .before .before in
-      let start = types .before .before .before .before .before .before in
-      λ p. unary-advances p (start .args .fresh) _ (types .operand-types .ensures)
+      let start = types .before .before .before .before in
+      λ p. unary-advances p (start .args .fresh) _ (types .operation-type .ensures _)
       (start .pre .1 .1 .0) (test .if1 .taken) (first .advance-expression .ensures) (c .unary .ensures)
-
-  operation-array-read-advance-expression-2 :
-      operation-lts.Need-array-read-advance-expression-2 (operation-calls t) (operation-at t) operation.Post
-  operation-array-read-advance-expression-2 c = search needs
 
   operation-advance-expression-requires-2 :
       operation-lts.Need-advance-expression-requires-2 (operation-calls t) (operation-at t) operation.Post
@@ -471,9 +483,9 @@ module _ (t : ℕ) where
       let test = c .before in
       let first = test .before .before .before in
       let types = first .before .before in
-      let start = types .before .before .before .before .before .before in
+      let start = types .before .before .before .before in
       let p = start .pre .1 .0 in
-      let w = binary-view (p .place) _ (types .operand-types .ensures) (test .if1 .left) (start .pre .1 .1 .1) in
+      let w = binary-view (p .place) _ (types .operation-type .ensures _) (test .if1 .left) (start .pre .1 .1 .1) in
       (omega (arith, start .pre .0, opened (p .place) .level-left), two-ready-2 p w (first .advance-expression .ensures))
 
   operation-binary-requires : operation-lts.Need-binary-requires (operation-calls t) (operation-at t) operation.Post
@@ -491,40 +503,40 @@ module _ (t : ℕ) where
       let test = second .before .before in
       let first = test .before .before .before in
       let types = first .before .before in
-      let start = types .before .before .before .before .before .before in
-      λ p. binary-advances p (start .args .fresh) _ (types .operand-types .ensures)
+      let start = types .before .before .before .before in
+      λ p. binary-advances p (start .args .fresh) _ (types .operation-type .ensures _)
       (test .if1 .left) (start .pre .1 .1 .1) (first .advance-expression .ensures) (second .advance-expression2 .ensures)
       (c .binary .ensures)
 
   pre-sub-below : pre-lts.Need-sub-below (pre-calls t) (pre-at t) pre.Post
-  pre-sub-below c = opened (c .before .before .before .before .pre .1 .0 .place) .level-left
+  pre-sub-below c = opened (c .before .before .pre .1 .0 .place) .level-left
 
   pre-add-first : pre-lts.Need-add-first (pre-calls t) (pre-at t) pre.Post
-  pre-add-first c = omega (arith, opened (c .before .before .before .before .pre .1 .0 .place) .good .starts)
+  pre-add-first c = omega (arith, opened (c .before .before .pre .1 .0 .place) .good .starts)
 
   pre-shared-slice-read-body : pre-lts.Need-shared-slice-read-body (pre-calls t) (pre-at t) pre.Post
-  pre-shared-slice-read-body c = opened (c .before .before .before .before .before .pre .1 .0 .place) .good .starts
+  pre-shared-slice-read-body c = opened (c .before .before .before .pre .1 .0 .place) .good .starts
 
   pre-body-requires : pre-lts.Need-body-requires (pre-calls t) (pre-at t) pre.Post
-  pre-body-requires c κs = opened (c .before .before .before .before .before .pre .1 .0 .place) .good .kind
+  pre-body-requires c κs = opened (c .before .before .before .pre .1 .0 .place) .good .kind
 
   pre-add-first-2 : pre-lts.Need-add-first-2 (pre-calls t) (pre-at t) pre.Post
   pre-add-first-2 c =
-      let start = c .before .before .before .before .before .before in
+      let start = c .before .before .before .before in
       omega (arith, opened (start .pre .1 .0 .place) .good .ends, c .body .ensures)
 
   pre-add-inner : pre-lts.Need-add-inner (pre-calls t) (pre-at t) pre.Post
-  pre-add-inner c = omega (arith, opened (c .before .before .before .before .before .before .pre .1 .0 .place) .good .cells)
+  pre-add-inner c = omega (arith, opened (c .before .before .before .before .pre .1 .0 .place) .good .cells)
 
   pre-body-at-requires : pre-lts.Need-body-at-requires (pre-calls t) (pre-at t) pre.Post
-  pre-body-at-requires c κs = whole (c .before .before .before .before .before .before .pre .1 .0 .place)
+  pre-body-at-requires c κs = whole (c .before .before .before .before .pre .1 .0 .place)
 
   pre-datum-of-requires : pre-lts.Need-datum-of-requires (pre-calls t) (pre-at t) pre.Post
   pre-datum-of-requires c κs = search needs
 
   pre-cell-at-requires : pre-lts.Need-cell-at-requires (pre-calls t) (pre-at t) pre.Post
   pre-cell-at-requires c κs =
-      let start = c .before .before .before .before .before .before .before .before .before in
+      let start = c .before .before .before .before .before .before .before in
       own-cell (start .pre .1 .0 .place) (start .pre .1 .1 .0) .stands .fits
 
   pre-held-requires : pre-lts.Need-held-requires (pre-calls t) (pre-at t) pre.Post
@@ -533,7 +545,7 @@ module _ (t : ℕ) where
   pre-advance-expression-requires : pre-lts.Need-advance-expression-requires (pre-calls t) (pre-at t) pre.Post
   pre-advance-expression-requires c κs =
       let body = c .before .before .before .before .before .before in
-      let start = body .before .before .before .before .before .before in
+      let start = body .before .before .before .before in
       let p = start .pre .1 .0 in
       let w = pre-view (p .place) (start .pre .1 .1 .0) (start .pre .1 .1 .1) in
       (omega (arith, start .pre .0, opened (p .place) .level-left), rw (body .body .ensures) (one-ready p w))
@@ -544,7 +556,7 @@ module _ (t : ℕ) where
   pre-put-cell-requires : pre-lts.Need-put-cell-requires (pre-calls t) (pre-at t) pre.Post
   pre-put-cell-requires c κs =
       let first = c .before .before .before .before in
-      let start = first .before .before .before .before .before .before .before .before .before .before .before .before .before in
+      let start = first .before .before .before .before .before .before .before .before .before .before .before in
       let own = own-cell (start .pre .1 .0 .place) (start .pre .1 .1 .0) in
       omega (arith, own .stands .fits, first .advance-expression .kept .1 .1 .0)
 
@@ -564,20 +576,20 @@ module _ (t : ℕ) where
       let constant = read .before .before in
       let number = constant .before in
       let size = number .before in
-      let start = size .before .before .before .before .before .before in
+      let start = size .before .before .before .before in
       λ p. pre-advances p (start .args .fresh) (start .pre .1 .1 .0) (start .pre .1 .1 .1)
       (number .body-at .ensures) (size .body .ensures) (constant .datum-of .ensures) (read .cell-at .ensures) (held .held .ensures)
       (first .advance-expression .ensures) (datum .datum-in .ensures) (put .put-cell .ensures)
 
   present-sub-below : present-lts.Need-sub-below (present-calls t) (present-at t) present.Post
-  present-sub-below c = opened (c .before .before .before .before .pre .1 .0 .place) .level-left
+  present-sub-below c = opened (c .before .before .pre .1 .0 .place) .level-left
 
   present-add-first : present-lts.Need-add-first (present-calls t) (present-at t) present.Post
-  present-add-first c = omega (arith, opened (c .before .before .before .before .pre .1 .0 .place) .good .starts)
+  present-add-first c = omega (arith, opened (c .before .before .pre .1 .0 .place) .good .starts)
 
   present-advance-expression-requires : present-lts.Need-advance-expression-requires (present-calls t) (present-at t) present.Post
   present-advance-expression-requires c κs =
-      let start = c .before .before .before .before .before in
+      let start = c .before .before .before in
       let p = start .pre .1 .0 in
       let w = present-view (p .place) (start .pre .1 .1) in
       (omega (arith, start .pre .0, opened (p .place) .level-left), three-ready p w)
@@ -585,10 +597,10 @@ module _ (t : ℕ) where
   present-is-true-requires : present-lts.Need-is-true-requires (present-calls t) (present-at t) present.Post
   present-is-true-requires c κs = search needs
 
-  present-advance-expression-requires-2 : present-lts.Need-advance-expression-requires-2 (present-calls t) (present-at t) present.Post
-  present-advance-expression-requires-2 c κs =
+  present-advance-by-kind-requires : present-lts.Need-advance-by-kind-requires (present-calls t) (present-at t) present.Post
+  present-advance-by-kind-requires c κs =
       let first = c .before .before .before .before .before in
-      let start = first .before .before .before .before .before .before in
+      let start = first .before .before .before .before in
       let p = start .pre .1 .0 in
       let w = present-view (p .place) (start .pre .1 .1) in
       (omega (arith, start .pre .0, opened (p .place) .level-left), three-ready-2 p w (first .advance-expression .ensures))
@@ -597,16 +609,16 @@ module _ (t : ℕ) where
   present-rest-requires c κs =
       let second = c .before .before .before in
       let first = second .before .before .before .before .before .before in
-      let start = first .before .before .before .before .before .before in
+      let start = first .before .before .before .before in
       let p = start .pre .1 .0 in
-      three-arm-3 p (present-view (p .place) (start .pre .1 .1)) (first .advance-expression .ensures) (second .advance-expression2 .ensures)
+      three-arm-3 p (present-view (p .place) (start .pre .1 .1)) (first .advance-expression .ensures) (second .advance-by-kind .ensures)
 
   present-same-length : present-lts.Need-same-length (present-calls t) (present-at t) present.Post
   present-same-length c =
       let third = c .before .before in
       let second = third .before .before .before .before in
       let first = second .before .before .before .before .before .before in
-      third .rest .kept .1 .1 .1 .1 .0 ∙ second .advance-expression2 .kept .1 .1 .0 ∙ first .advance-expression .kept .1 .1 .0
+      third .rest .kept .1 .1 .1 .1 .0 ∙ second .advance-by-kind .kept .1 .1 .0 ∙ first .advance-expression .kept .1 .1 .0
 
   present-returns : present-lts.Need-returns (present-calls t) (present-at t) present.Post
   present-returns c =
@@ -615,23 +627,23 @@ module _ (t : ℕ) where
       let taken = second .before .before in
       let test = taken .before in
       let first = test .before .before .before in
-      let start = first .before .before .before .before .before .before in
+      let start = first .before .before .before .before in
       λ p. present-advances-first p (start .args .fresh) (start .pre .1 .1)
       (first .advance-expression .ensures) (sym (test .is-true .ensures) ∙ taken .if1 .taken)
-      (second .advance-expression2 .ensures) (third .rest .ensures)
+      (second .advance-by-kind .ensures) (third .rest .ensures)
 
   present-rest-requires-2 : present-lts.Need-rest-requires-2 (present-calls t) (present-at t) present.Post
   present-rest-requires-2 c κs =
       let first = c .before .before .before .before .before in
-      let start = first .before .before .before .before .before .before in
+      let start = first .before .before .before .before in
       let p = start .pre .1 .0 in
       three-arm-2 p (present-view (p .place) (start .pre .1 .1)) (first .advance-expression .ensures)
 
-  present-advance-expression-requires-3 : present-lts.Need-advance-expression-requires-3 (present-calls t) (present-at t) present.Post
-  present-advance-expression-requires-3 c κs =
+  present-advance-by-kind-requires-2 : present-lts.Need-advance-by-kind-requires-2 (present-calls t) (present-at t) present.Post
+  present-advance-by-kind-requires-2 c κs =
       let second = c .before .before .before in
       let first = second .before .before .before .before .before .before in
-      let start = first .before .before .before .before .before .before in
+      let start = first .before .before .before .before in
       let p = start .pre .1 .0 in
       let w = present-view (p .place) (start .pre .1 .1) in (
         omega (arith, start .pre .0, opened (p .place) .level-left),
@@ -647,7 +659,7 @@ module _ (t : ℕ) where
       let third = c .before .before .before in
       let second = third .before .before .before .before in
       let first = second .before .before .before .before .before .before in
-      third .advance-expression3 .kept .1 .1 .0 ∙ second .rest2 .kept .1 .1 .1 .1 .0 ∙ first .advance-expression .kept .1 .1 .0
+      third .advance-by-kind2 .kept .1 .1 .0 ∙ second .rest2 .kept .1 .1 .1 .1 .0 ∙ first .advance-expression .kept .1 .1 .0
 
   present-returns-2 : present-lts.Need-returns-2 (present-calls t) (present-at t) present.Post
   present-returns-2 c =
@@ -656,20 +668,20 @@ module _ (t : ℕ) where
       let left = second .before .before in
       let test = left .before in
       let first = test .before .before .before in
-      let start = first .before .before .before .before .before .before in
+      let start = first .before .before .before .before in
       λ p. present-advances-second p (start .args .fresh) (start .pre .1 .1)
       (first .advance-expression .ensures) (sym (test .is-true .ensures) ∙ left .if1 .left)
-      (second .rest2 .ensures) (third .advance-expression3 .ensures) (c .under .ensures)
+      (second .rest2 .ensures) (third .advance-by-kind2 .ensures) (c .under .ensures)
 
   reset-sub-below : reset-lts.Need-sub-below (reset-calls t) (reset-at t) reset.Post
-  reset-sub-below c = opened (c .before .before .before .before .pre .1 .0 .place) .level-left
+  reset-sub-below c = opened (c .before .before .pre .1 .0 .place) .level-left
 
   reset-add-first : reset-lts.Need-add-first (reset-calls t) (reset-at t) reset.Post
-  reset-add-first c = omega (arith, opened (c .before .before .before .before .pre .1 .0 .place) .good .starts)
+  reset-add-first c = omega (arith, opened (c .before .before .pre .1 .0 .place) .good .starts)
 
   reset-advance-expression-requires : reset-lts.Need-advance-expression-requires (reset-calls t) (reset-at t) reset.Post
   reset-advance-expression-requires c κs =
-      let start = c .before .before .before .before .before in
+      let start = c .before .before .before in
       let p = start .pre .1 .0 in
       let w = reset-view (p .place) (start .pre .1 .1) in
       (omega (arith, start .pre .0, opened (p .place) .level-left), two-ready p w)
@@ -677,10 +689,10 @@ module _ (t : ℕ) where
   reset-is-true-requires : reset-lts.Need-is-true-requires (reset-calls t) (reset-at t) reset.Post
   reset-is-true-requires c κs = search needs
 
-  reset-advance-expression-requires-2 : reset-lts.Need-advance-expression-requires-2 (reset-calls t) (reset-at t) reset.Post
-  reset-advance-expression-requires-2 c κs =
+  reset-advance-by-kind-requires : reset-lts.Need-advance-by-kind-requires (reset-calls t) (reset-at t) reset.Post
+  reset-advance-by-kind-requires c κs =
       let first = c .before .before .before .before in
-      let start = first .before .before .before .before .before .before in
+      let start = first .before .before .before .before in
       let p = start .pre .1 .0 in
       let w = reset-view (p .place) (start .pre .1 .1) in
       (omega (arith, start .pre .0, opened (p .place) .level-left), two-ready-2 p w (first .advance-expression .ensures))
@@ -692,39 +704,64 @@ module _ (t : ℕ) where
   reset-same-length c =
       let second = c .before .before .before in
       let first = second .before .before .before .before .before in
-      second .advance-expression2 .kept .1 .1 .0 ∙ first .advance-expression .kept .1 .1 .0
+      second .advance-by-kind .kept .1 .1 .0 ∙ first .advance-expression .kept .1 .1 .0
 
   reset-returns : reset-lts.Need-returns (reset-calls t) (reset-at t) reset.Post
   reset-returns c =
       let second = c .before .before .before in
       let test = second .before .before in
       let first = test .before .before .before in
-      let start = first .before .before .before .before .before .before in
+      let start = first .before .before .before .before in
       λ p. reset-advances p (start .args .fresh) (start .pre .1 .1)
-      (first .advance-expression .ensures) (test .is-true .ensures) (second .advance-expression2 .ensures) (c .under .ensures)
+      (first .advance-expression .ensures) (test .is-true .ensures) (second .advance-by-kind .ensures) (c .under .ensures)
 
-pub +advance-conditional+advance-expression+advance-fby+advance-operation+advance-pre+advance-present+advance-reset-spec : {M : Type 1} → statement M
-+advance-conditional+advance-expression+advance-fby+advance-operation+advance-pre+advance-present+advance-reset-spec =
-    close μ-conditional μ-expression μ-fby μ-operation μ-pre μ-present μ-reset
+  expression-shared-slice-read-if1 : expression-lts.Need-shared-slice-read-if1 (expression-calls t) (expression-at t) expression.Post
+  expression-shared-slice-read-if1 c = opened (c .before .before .before .pre .1 .place) .good .starts
+
+  expression-value-leaf-requires : expression-lts.Need-value-leaf-requires (expression-calls t) (expression-at t) expression.Post
+  expression-value-leaf-requires c κs = leaf-of (c .before .before .before .before .pre .1 .place) (c .if1 .taken)
+
+  expression-returns : expression-lts.Need-returns (expression-calls t) (expression-at t) expression.Post
+  expression-returns c =
+      let start = c .before .before .before .before .before in
+      λ p. leaf-advances p (start .args .fresh) (c .before .if1 .taken) (c .value-leaf .ensures)
+
+  expression-advance-by-kind-requires : expression-lts.Need-advance-by-kind-requires (expression-calls t) (expression-at t) expression.Post
+  expression-advance-by-kind-requires c κs =
+      let start = c .before .before .before .before .before in
+      (omega (arith, start .pre .0), start .pre .1)
+
+  expression-same-length : expression-lts.Need-same-length (expression-calls t) (expression-at t) expression.Post
+  expression-same-length c = c .before .before .advance-by-kind .kept .1 .1 .0
+
+  expression-returns-2 : expression-lts.Need-returns-2 (expression-calls t) (expression-at t) expression.Post
+  expression-returns-2 c = c .before .before .advance-by-kind .ensures
+
+pub +advance-by-kind+advance-conditional+advance-expression+advance-fby+advance-operation+advance-pre+advance-present+advance-reset-spec : {M : Type 1} → statement M
++advance-by-kind+advance-conditional+advance-expression+advance-fby+advance-operation+advance-pre+advance-present+advance-reset-spec =
+    close μ-by-kind μ-conditional μ-expression μ-fby μ-operation μ-pre μ-present μ-reset
+    (λ t. by-kind-lts.spec (by-kind-calls t) (by-kind-at t) by-kind.Post
+    (by-kind-shared-slice-read-match t) (by-kind-advance-conditional-requires t) (by-kind-advance-present-requires t)
+    (by-kind-advance-reset-requires t) (by-kind-value-leaf-requires t) (by-kind-advance-operation-requires t)
+    (by-kind-advance-pre-requires t) (by-kind-advance-fby-requires t) (by-kind-same-length t) (by-kind-returns t)
+    (by-kind-same-length-2 t) (by-kind-returns-2 t) (by-kind-same-length-3 t) (by-kind-returns-3 t) (by-kind-returns-4 t)
+    (by-kind-same-length-4 t) (by-kind-returns-5 t) (by-kind-same-length-5 t) (by-kind-returns-6 t)
+    (by-kind-same-length-6 t) (by-kind-returns-7 t))
     (λ t. conditional-lts.spec (conditional-calls t) (conditional-at t) conditional.Post
     (conditional-sub-below t) (conditional-add-first t) (conditional-advance-expression-requires t)
     (conditional-advance-expression-requires-2 t) (conditional-advance-expression-requires-3 t)
     (conditional-conditional-requires t) (conditional-same-length t) (conditional-returns t))
     (λ t. expression-lts.spec (expression-calls t) (expression-at t) expression.Post
-    (expression-shared-slice-read-match t) (expression-advance-conditional-requires t) (expression-advance-present-requires t)
-    (expression-advance-reset-requires t) (expression-value-expression-requires t) (expression-advance-operation-requires t)
-    (expression-advance-pre-requires t) (expression-advance-fby-requires t) (expression-same-length t) (expression-returns t)
-    (expression-same-length-2 t) (expression-returns-2 t) (expression-same-length-3 t) (expression-returns-3 t)
-    (expression-same-length-4 t) (expression-returns-4 t) (expression-same-length-5 t) (expression-returns-5 t)
-    (expression-same-length-6 t) (expression-returns-6 t) (expression-same-length-7 t) (expression-returns-7 t))
+    (expression-shared-slice-read-if1 t) (expression-value-leaf-requires t) (expression-returns t)
+    (expression-advance-by-kind-requires t) (expression-same-length t) (expression-returns-2 t))
     (λ t. fby-lts.spec (fby-calls t) (fby-at t) fby.Post
     (fby-sub-below t) (fby-add-first t) (fby-add-inner t) (fby-cell-at-requires t) (fby-started-requires t)
     (fby-advance-expression-requires t) (fby-advance-expression-requires-2 t) (fby-datum-in-requires t)
     (fby-put-cell-requires t) (fby-held-or-requires t) (fby-same-length t) (fby-returns t))
     (λ t. operation-lts.spec (operation-calls t) (operation-at t) operation.Post
-    (operation-shared-slice-read-kind t) (operation-operand-types-requires t) (operation-sub-below t) (operation-add-first t)
-    (operation-array-read-advance-expression t) (operation-advance-expression-requires t) (operation-unary-requires t)
-    (operation-same-length t) (operation-returns t) (operation-array-read-advance-expression-2 t)
+    (operation-shared-slice-read-kind t) (operation-operation-type-requires t) (operation-sub-below t) (operation-add-first t)
+    (operation-advance-expression-requires t) (operation-unary-requires t)
+    (operation-same-length t) (operation-returns t)
     (operation-advance-expression-requires-2 t) (operation-binary-requires t) (operation-same-length-2 t)
     (operation-returns-2 t))
     (λ t. pre-lts.spec (pre-calls t) (pre-at t) pre.Post
@@ -733,9 +770,9 @@ pub +advance-conditional+advance-expression+advance-fby+advance-operation+advanc
     (pre-advance-expression-requires t) (pre-datum-in-requires t) (pre-put-cell-requires t) (pre-same-length t) (pre-returns t))
     (λ t. present-lts.spec (present-calls t) (present-at t) present.Post
     (present-sub-below t) (present-add-first t) (present-advance-expression-requires t) (present-is-true-requires t)
-    (present-advance-expression-requires-2 t) (present-rest-requires t) (present-same-length t) (present-returns t)
-    (present-rest-requires-2 t) (present-advance-expression-requires-3 t) (present-under-requires t) (present-same-length-2 t)
+    (present-advance-by-kind-requires t) (present-rest-requires t) (present-same-length t) (present-returns t)
+    (present-rest-requires-2 t) (present-advance-by-kind-requires-2 t) (present-under-requires t) (present-same-length-2 t)
     (present-returns-2 t))
     (λ t. reset-lts.spec (reset-calls t) (reset-at t) reset.Post
     (reset-sub-below t) (reset-add-first t) (reset-advance-expression-requires t) (reset-is-true-requires t)
-    (reset-advance-expression-requires-2 t) (reset-under-requires t) (reset-same-length t) (reset-returns t))
+    (reset-advance-by-kind-requires t) (reset-under-requires t) (reset-same-length t) (reset-returns t))

@@ -1,0 +1,56 @@
+-- What the bytes of a leaf show: its body, and the word and the value that it stands for.
+use Prim.Native.Nat.{ℕ, _+_, _*_, _≤_, _<_}
+use mathlib.Core.Path.{_≡_, refl, sym, ap, _∙_}
+use mathlib.Core.Bool.{Bool, true, false}
+use mathlib.Core.List.{List}
+use native.Mathlib.Omega.{arith}
+use lib.Dec.{eqb}
+use lib.ListN.{length, getD}
+use borrow.Author.Tests.{eq-eqb, ne-eqb, eqb-true}
+use Rattle.numbers.specs.Words.{wordAt}
+use Rattle.sheet.specs.Kinds.{bodyOf}
+use Rattle.sheet.specs.Readings.{bodyAt}
+use Rattle.sheet.specs.Rows.{entryAt}
+use Rattle.expression.specs.Leaves.{Leaf, knownBy, leafWord}
+use Rattle.expression.proofs.Rows.{leaf-body, leaf-sized}
+
+module _ {s row : List ℕ} {at : ℕ} (l : Leaf s row at) where
+  abbrev kind : ℕ
+  kind = getD s at 0
+
+  pub two-bytes : at + 2 ≤ length s
+  two-bytes = omega (arith, l .whole .ends, leaf-sized kind (l .kind))
+
+  pub number-body : kind ≡ 1 → at + 5 ≤ length s
+  number-body is = let ends : at + 1 + 4 ≤ length s = rw is at (l .whole .ends) in omega arith
+
+  pub byte-body : (kind ≡ 1 → ⊥) → bodyAt s at ≡ getD s (at + 1) 0
+  byte-body other = rw (← leaf-body kind (l .kind) other)
+
+  pub wire-byte : kind ≡ 2 → getD s (at + 1) 0 < 64
+  wire-byte is = rw is at (l .wire is)
+
+  pub entry-byte : kind ≡ 3 → 4 * getD s (at + 1) 0 + 4 ≤ length row
+  entry-byte is = rw is at (l .entry is)
+
+  -- the word, by the kind
+  module _ (words : List ℕ) where
+    pub word-of-number : kind ≡ 1 → wordAt s (at + 1) ≡ leafWord s row words at
+    word-of-number is = rw is
+
+    pub word-of-wire : kind ≡ 2 → getD words (getD s (at + 1) 0) 0 ≡ leafWord s row words at
+    word-of-wire is = rw is
+
+    pub word-of-input : kind ≡ 3 → entryAt row (getD s (at + 1) 0) ≡ leafWord s row words at
+    word-of-input is = rw is
+
+    pub word-of-boolean : (kind ≡ 1 → ⊥) → (kind ≡ 2 → ⊥) → (kind ≡ 3 → ⊥) → getD s (at + 1) 0 ≡ leafWord s row words at
+    word-of-boolean one two three = sym (rw (ne-eqb kind 2 two, ne-eqb kind 3 three) (byte-body one))
+
+  -- only where it names a wire does its byte count
+  pub named-known : (bits : ℕ) → knownBy bits kind (getD s (at + 1) 0) ≡ knownBy bits kind (bodyAt s at)
+  named-known bits = by (eqb kind 2) refl
+    where
+      by : (b : Bool) → eqb kind 2 ≡ b → knownBy bits kind (getD s (at + 1) 0) ≡ knownBy bits kind (bodyAt s at)
+      by false e = rw e
+      by true e = let is : kind ≡ 2 = eqb-true kind 2 e in rw is

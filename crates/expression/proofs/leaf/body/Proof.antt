@@ -1,0 +1,14 @@
+-- `body` meets its contract: of the leaves only a number's constant has four bytes.
+use borrow.Author.Needs.{needs}
+use Rattle.expression.proofs.Rows.{leaf-body}
+use Rattle.expression.proofs.leaf.body.Statement.{statement}
+use Rattle.expression.proofs.leaf.body.Tie as tie
+
+returns : tie.Need-returns
+returns c = search needs
+
+returns-2 : tie.Need-returns-2
+returns-2 c = leaf-body _ (c .before .pre) (c .if1 .left)
+
+pub body-spec : {M : Type 1} → statement M
+body-spec = tie.close (tie.spec returns returns-2)

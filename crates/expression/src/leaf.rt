@@ -1,0 +1,84 @@
+// The value of a constant, a wire or an input, kinds 0 to 3. Rests on `data` for what a word stands for and on the set of wires.
+use crate::Valued;
+use kernel::Value;
+use sheet::data;
+use wires::Wires;
+ghost use mathlib.Core.Path.{_≡_};
+ghost use Prim.Native.Nat.{_<_};
+ghost use Rattle.sheet.specs.Data.{typeOfByte};
+ghost use Rattle.sheet.specs.Kinds.{bodyOf};
+ghost use Rattle.expression.specs.Places.{valueOfWord};
+ghost use Rattle.expression.specs.Leaves.{Leaf, knownBy, leafWord, leafValued};
+
+// Whether the value of a leaf of the kind is known: that of a wire where the set has the one that is named, and any other.
+fn is_known(known: Wires, kind: u8, named: u8) -> bool
+    requires { ⌜ (kind ≡ 2 → named < 64) ⌝ }
+    ensures { λ r. ⌜ r ≡ knownBy (known .bits) kind named ⌝ }
+{
+    if kind == 2 {
+        known.has(named as usize)
+    } else {
+        true
+    }
+}
+
+// The word that stands for the value: the constant, or the word of the wire or the input that is named.
+fn word_of(sheet: &[u8], input: &&[u8], words: &[u32; 64], at: usize) -> u32
+    requires { ⌜ Leaf (now sheet) (now (now input)) at ⌝ }
+    ensures { λ r. ⌜ r ≡ leafWord (now (sheet .entry)) (now (now (input .entry))) (now (words .entry)) at ⌝ }
+{
+    let kind = sheet[at];
+    if kind == 1 {
+        return numbers::word_at(sheet, at + 1);
+    }
+    let named = sheet[at + 1] as usize;
+    if kind == 2 {
+        return words[named];
+    }
+    if kind == 3 {
+        return numbers::word_at(*input, 4 * named);
+    }
+    named as u32
+}
+
+// A value of the type, from whether it is known and its word.
+fn value_of_word(known: bool, asked: u8, word: u32) -> Value
+    ensures { λ r. ⌜ r ≡ valueOfWord known (typeOfByte asked) word ⌝ }
+{
+    if known {
+        Value::Known(data::datum_of(asked, word))
+    } else {
+        Value::Unknown
+    }
+}
+
+// How many bytes the body has.
+fn body(kind: u8) -> usize
+    requires { ⌜ kind < 4 ⌝ }
+    ensures { λ r. ⌜ r ≡ bodyOf kind ⌝ }
+{
+    if kind == 1 { 4 } else { 1 }
+}
+
+// The value, of which the type byte `asked` is asked; it has no cells.
+pub fn value_leaf(
+    sheet: &[u8],
+    input: &&[u8],
+    known: Wires,
+    words: &[u32; 64],
+    asked: u8,
+    at: usize,
+    cell: usize,
+) -> Valued
+    requires { ⌜ Leaf (now sheet) (now (now input)) at ⌝ }
+    ensures { λ r. ⌜ r ≡ leafValued (now (sheet .entry)) (now (now (input .entry))) (now (words .entry)) (known .bits) asked at cell ⌝ }
+{
+    let kind = sheet[at];
+    let known_here = is_known(known, kind, sheet[at + 1]);
+    let word = word_of(sheet, input, words, at);
+    Valued {
+        next: at + 1 + body(kind),
+        value: value_of_word(known_here, asked, word),
+        cell,
+    }
+}

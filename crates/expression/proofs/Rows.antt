@@ -8,14 +8,8 @@ use Rattle.sheet.specs.Data.{ValueType, boolean, number, typeOf, datumOf}
 use Rattle.sheet.specs.Expressions.{constant, unary, binary, pre}
 use Rattle.sheet.specs.Expressions.{CellForm, preCell, fbyCell}
 use Rattle.sheet.specs.Kinds.{Meaning, operand, bodyOf, cellsOf, countOf, operandsOf, foundOf, meaningOf}
-use Rattle.sheet.specs.Laws.Readings.{ownForms, every-kind, Rows, _▸_, end, row-at}
+use Rattle.sheet.specs.Laws.Readings.{ownForms, kinds-between, _▸_, end}
 use Rattle.kernel.specs.Operations.{unaryOf, binaryOf}
-
--- what is shown of some rows, one behind the other, holds of every kind between them
-among : (P : ℕ → Type 0) {low n : ℕ} → Rows P low n → (k : ℕ) → low ≤ k → k < low + n → P k
-among P {low} rows k above below =
-    let e : low + (k - low) ≡ k = omega arith in
-    rw e at (row-at P rows (k - low) (omega arith))
 
 -- the row of kind k, without the types
 abbrev pub rowOf : ℕ → ℕ × ℕ × ℕ × Meaning
@@ -26,14 +20,14 @@ UnaryRow k = rowOf k ≡ (0, 0, 1, λ t b es. unary (unaryOf k) (operand es 0))
 
 pub unary-row : (k : ℕ) → 4 ≤ k → k < 6 → UnaryRow k
 unfolding meaningOf
-unary-row = among UnaryRow (refl ▸ refl ▸ end)
+unary-row = kinds-between UnaryRow (refl ▸ refl ▸ end)
 
 abbrev pub BinaryRow : ℕ → Type 0
 BinaryRow k = rowOf k ≡ (0, 0, 2, λ t b es. binary (binaryOf k) (operand es 0) (operand es 1))
 
 pub binary-row : (k : ℕ) → 6 ≤ k → k < 12 → BinaryRow k
 unfolding meaningOf
-binary-row = among BinaryRow (refl ▸ refl ▸ refl ▸ refl ▸ refl ▸ refl ▸ end)
+binary-row = kinds-between BinaryRow (refl ▸ refl ▸ refl ▸ refl ▸ refl ▸ refl ▸ end)
 
 -- a pre has the type of its operand
 pub record PreRow (k : ℕ) : Type 0 where
@@ -42,7 +36,7 @@ pub record PreRow (k : ℕ) : Type 0 where
 
 pub pre-row : (k : ℕ) → 15 ≤ k → k < 17 → PreRow k
 unfolding meaningOf operandsOf
-pre-row = among PreRow (
+pre-row = kinds-between PreRow (
     record { row = refl; types = λ is ws t n e. ap (λ u. u ∷ []) e }
     ▸ record { row = refl; types = λ is ws t n e. ap (λ u. u ∷ []) e }
     ▸ end)
@@ -52,7 +46,7 @@ ConstantRow k = rowOf k ≡ (bodyOf k, 0, 0, λ t b es. constant (datumOf t b))
 
 pub constant-row : (k : ℕ) → k < 2 → ConstantRow k
 unfolding meaningOf
-constant-row k below = among ConstantRow {low = 0} (refl ▸ refl ▸ end) k (omega arith) (omega arith)
+constant-row k below = kinds-between ConstantRow {low = 0} (refl ▸ refl ▸ end) k (omega arith) (omega arith)
 
 -- the form of the cell that a kind owns
 pub record CellRow (type : ValueType) (body k : ℕ) : Type 0 where
@@ -65,7 +59,7 @@ datum-typed boolean body = refl
 datum-typed number body = refl
 
 pub cell-row : (type : ValueType) (body k : ℕ) → 15 ≤ k → k < 18 → CellRow type body k
-cell-row type body = among (CellRow type body) (
+cell-row type body = kinds-between (CellRow type body) (
     record { form = preCell (datumOf type body); owns = refl; typed = datum-typed type body }
     ▸ record { form = preCell (datumOf type body); owns = refl; typed = datum-typed type body }
     ▸ record { form = fbyCell type; owns = refl; typed = refl }
@@ -90,7 +84,7 @@ abbrev LeafBody : ℕ → Type 0
 LeafBody k = (1 ≤ bodyOf k) × ((k ≡ 1 → ⊥) → 1 ≡ bodyOf k)
 
 leaf-row : (k : ℕ) → k < 4 → LeafBody k
-leaf-row k below = among LeafBody {low = 0} (one ▸ (omega arith, λ n. absurd (n refl)) ▸ one ▸ one ▸ end) k (omega arith) (omega arith)
+leaf-row k below = kinds-between LeafBody {low = 0} (one ▸ (omega arith, λ n. absurd (n refl)) ▸ one ▸ one ▸ end) k (omega arith) (omega arith)
   where
     one : {n : ℕ} → (1 ≤ 1) × ((n ≡ 1 → ⊥) → _≡_ {A = ℕ} 1 1)
     one = (omega arith, λ n. refl)

@@ -33,11 +33,12 @@ joined-alone ws empty joins = record { same = λ k. joins .joined k ∙ ap (λ b
 
 module _ {s : List ℕ} {wires at : ℕ} (run : WiresRead s wires at) where
   -- a wire's expression reads where it starts
-  abbrev wire-reads : {w next count : ℕ} → wires ≤ 64 → StartsAt run w next count → ReadsAt s 16 next count
+  abbrev wire-reads : {w next count : ℕ} → wires ≤ 64 → StartsAt run w next count → ReadsAt s next count
   wire-reads {w} few here =
       record {
         inputs = run .inputs;
         wires = run .types;
+        level = 16;
         asked = getD (run .types) w 0;
         tree = getD (run .trees) w (constant (Boolean false));
         next = here .next;
@@ -55,13 +56,13 @@ module _ {s : List ℕ} {wires at : ℕ} (run : WiresRead s wires at) where
   no-progress = record { left = all-left run; noted = λ v l. absurd (omega arith) }
 
   pub ahead : {places firsts reads : List ℕ} {w next count : ℕ} → wires ≤ 64
-      → Progress places firsts reads w next count → w < wires → ReadsAt s 16 next count
+      → Progress places firsts reads w next count → w < wires → ReadsAt s next count
   ahead few before more = wire-reads few (turn run (before .left) more .here)
 
   pub progress : {places firsts reads : List ℕ} {w next count none : ℕ} (found : ReadsFound) → wires ≤ 64
       → Progress places firsts reads w next count → w < wires
       → w < length places → w < length firsts → w < length reads
-      → ((k : ℕ) → member none k ≡ false) → ((p : ReadsAt s 16 next count) → Gathers p none found)
+      → ((k : ℕ) → member none k ≡ false) → ((p : ReadsAt s next count) → Gathers p none found)
       → Progress (set places w next) (set firsts w count) (set reads w (found .reads .bits)) (w + 1) (found .next) (found .cell)
   progress {places} {firsts} {reads} {w} {next} {count} found few before more in-places in-firsts in-reads empty gathered =
       let t = turn run (before .left) more in

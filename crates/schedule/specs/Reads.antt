@@ -1,4 +1,4 @@
--- An expression whose reads are asked: what stands at its place, which operands count, and the set that its wires are joined to.
+-- An expression whose reads are asked: what stands at its place, and the set that its wires are joined to.
 use Prim.Native.Nat.{ℕ, _≤_, _<_}
 use mathlib.Core.Path.{_≡_}
 use mathlib.Core.Bool.{cond, _||_}
@@ -7,16 +7,10 @@ use lib.Dec.{eqb}
 use lib.ListN.{length, getD}
 use Rattle.sheet.specs.Expressions.{Expression}
 use Rattle.sheet.specs.Readings.{got, readExpression, bodyAt, Whole}
-use Rattle.sheet.specs.Kinds.{digitOf}
 use Rattle.wires.specs.Sets.{member}
 use Rattle.kernel.specs.Lists.{among}
 use Rattle.kernel.specs.Reads.{wiresRead}
 use Rattle.schedule.specs.declared.reads.ReadsFound.{ReadsFound}
-
--- how many operands of a kind are read within the instant, the first ones, an octal digit to a kind, that of kind 0 last: none of
--- a pre's, the left one of an fby's
-abbrev pub heardOf : ℕ → ℕ
-heardOf = digitOf 0o100233222222110000
 
 -- the wire that an expression of kind k names, by the number in its body
 abbrev pub wiresNamed : ℕ → ℕ → List ℕ
@@ -38,10 +32,11 @@ pub record Own (s : List ℕ) (at : ℕ) : Type 0 where
   pub whole : Whole s at
   pub names : getD s at 0 ≡ 2 → bodyAt s at < 64
 
--- an expression reads at the place, with so many levels left and c cells before it, in a sheet of at most 64 wires
-pub record ReadsAt (s : List ℕ) (level at c : ℕ) : Type 0 where
+-- an expression reads at the place, with c cells before it, in a sheet of at most 64 wires
+pub record ReadsAt (s : List ℕ) (at c : ℕ) : Type 0 where
   pub inputs : List ℕ
   pub wires : List ℕ
+  pub level : ℕ
   pub asked : ℕ
   pub tree : Expression
   pub next : ℕ
@@ -50,7 +45,7 @@ pub record ReadsAt (s : List ℕ) (level at c : ℕ) : Type 0 where
   pub reads : readExpression inputs wires s level asked at c ≡ got tree next count
 
 -- what was found at the expression: where it ends, the count of the cells behind it, and its reads joined to those of before
-pub record Gathers {s : List ℕ} {level at c : ℕ} (p : ReadsAt s level at c) (before : ℕ) (found : ReadsFound) : Type 0 where
+pub record Gathers {s : List ℕ} {at c : ℕ} (p : ReadsAt s at c) (before : ℕ) (found : ReadsFound) : Type 0 where
   pub next : found .next ≡ p .next
   pub cell : found .cell ≡ p .count
   pub reads : Joins before (wiresRead (p .tree)) (found .reads .bits)

@@ -43,7 +43,7 @@ fn note_wires(
     while w < wires {
         places[w] = next;
         firsts[w] = count;
-        let found = reads::reads_of(sheet, 16, next, count, Wires::none());
+        let found = reads::reads_of(sheet, next, count, Wires::none());
         let set = found.reads;
         reads[w] = set.bits;
         next = found.next;

@@ -2,13 +2,9 @@
 use sheet::kinds;
 use sheet_walk::skip;
 use wires::Wires;
-ghost use mathlib.Core.Path.{_≡_};
-ghost use Prim.Native.Nat.{_<_};
-ghost use Rattle.schedule.specs.Reads.{heardOf, namedWires, Joins, Own, ReadsAt, Gathers};
-
-// How many operands are read within the instant, an octal digit to a kind as in `kinds`: all of them, but not a pre's, and of an
-// fby's only the left.
-const HEARD: u64 = 0o100233222222110000;
+ghost use Prim.Native.Nat.{_≤_};
+ghost use lib.ListN.{getD};
+ghost use Rattle.schedule.specs.Reads.{namedWires, Joins, Own, ReadsAt, Gathers};
 
 // The wires that an expression reads within the instant, where it ends, and the number of the first cell past its own.
 // In this order of fields the walk is faster.
@@ -16,14 +12,6 @@ pub struct ReadsFound {
     pub next: usize,
     pub reads: Wires,
     pub cell: usize,
-}
-
-// How many operands of an expression of this kind are read within the instant: these come first.
-fn heard(kind: u8) -> usize
-    requires { ⌜ kind < 18 ⌝ }
-    ensures { λ r. ⌜ r ≡ heardOf kind ⌝ }
-{
-    kinds::digit(HEARD, kind) as usize
 }
 
 // The wires found so far, with the one that the expression at `at` itself names, if it names one.
@@ -38,44 +26,56 @@ fn with_named(sheet: &[u8], at: usize, found: Wires) -> Wires
     }
 }
 
-// What an operand reads, as `reads_of` has it. One without operands of its own is read here, without a call.
-fn reads_at(sheet: &[u8], level: usize, at: usize, cell: usize, found: Wires) -> ReadsFound
-    requires { ⌜ ReadsAt (now sheet) level at cell ⌝ }
-    ensures { λ r. ⌜ ((p : ReadsAt (now (sheet .entry)) level at cell) → Gathers p (found .bits) r) ⌝ }
+// What the owner of a cell at `at` reads, added to `found`: a pre reads nothing, an fby what its left operand reads. The operand that
+// is not read is walked past.
+fn reads_of_owner(sheet: &[u8], at: usize, cell: usize, found: Wires) -> ReadsFound
+    requires { ⌜ ReadsAt (now sheet) at cell × (15 ≤ getD (now sheet) at 0) ⌝ }
+    ensures { λ r. ⌜ ((p : ReadsAt (now (sheet .entry)) at cell) → Gathers p (found .bits) r) ⌝ }
 {
     let kind = sheet[at];
-    if kind < 4 {
+    let first = at + 1 + kinds::body(kind);
+    let inner = cell + 1;
+    if kind < 17 {
+        let past = skip::skip(sheet, first, inner);
         return ReadsFound {
-            next: at + 1 + kinds::body(kind),
-            reads: with_named(sheet, at, found),
-            cell,
+            next: past.next,
+            reads: found,
+            cell: past.cell,
         };
     }
-    reads_of(sheet, level, at, cell, found)
+    let left = reads_of(sheet, first, inner, found);
+    let reads = left.reads;
+    let past = skip::skip(sheet, left.next, left.cell);
+    ReadsFound {
+        next: past.next,
+        reads,
+        cell: past.cell,
+    }
 }
 
-// What the expression at `at`, whose first cell has the number `cell`, reads within the instant, added to `found`. Of its operands
-// those that are read come first, and then one that is not.
-pub fn reads_of(sheet: &[u8], level: usize, at: usize, cell: usize, found: Wires) -> ReadsFound
-    requires { ⌜ ReadsAt (now sheet) level at cell ⌝ }
-    ensures { λ r. ⌜ ((p : ReadsAt (now (sheet .entry)) level at cell) → Gathers p (found .bits) r) ⌝ }
+// What the expression at `at`, whose first cell has the number `cell`, reads within the instant, added to `found`. Its kind bytes are
+// met one after the other, as in `skip`, up to those under a cell's owner.
+pub fn reads_of(sheet: &[u8], at: usize, cell: usize, found: Wires) -> ReadsFound
+    requires { ⌜ ReadsAt (now sheet) at cell ⌝ }
+    ensures { λ r. ⌜ ((p : ReadsAt (now (sheet .entry)) at cell) → Gathers p (found .bits) r) ⌝ }
 {
-    let kind = sheet[at];
-    let mut reads = with_named(sheet, at, found);
-    let mut next = at + 1 + kinds::body(kind);
-    let mut count = cell + kinds::cells(kind);
-    let mut left = heard(kind);
-    while 0 < left {
-        let one = reads_at(sheet, level - 1, next, count, reads);
-        reads = one.reads;
-        next = one.next;
-        count = one.cell;
-        left -= 1;
-    }
-    if heard(kind) < kinds::operands(kind) {
-        let past = skip::skip(sheet, next, count);
-        next = past.next;
-        count = past.cell;
+    let mut reads = found;
+    let mut next = at;
+    let mut count = cell;
+    let mut pending = 1;
+    while 0 < pending {
+        let kind = sheet[next];
+        pending -= 1;
+        if kind < 15 {
+            reads = with_named(sheet, next, reads);
+            pending += kinds::operands(kind);
+            next += 1 + kinds::body(kind);
+        } else {
+            let owner = reads_of_owner(sheet, next, count, reads);
+            reads = owner.reads;
+            next = owner.next;
+            count = owner.cell;
+        }
     }
     ReadsFound {
         next,

@@ -8,7 +8,7 @@ use lib.ListN.{getD, take}
 use lib.Dec.{T, leb, leb→le, eqb}
 use borrow.Author.Tests.{eqb-true, eqb-false}
 use Rattle.sheet.specs.Kinds.{kinds, operands, cellsOf, countOf, typed, operandsOf, digitOf}
-use Rattle.sheet.specs.Laws.Readings.{every-kind, _▸_, end}
+use Rattle.sheet.specs.Laws.Readings.{every-kind, kinds-between, _▸_, end}
 
 -- the first operand's type and that of every later one, as the code's arrays have them
 abbrev pub firstOf : ℕ → ℕ
@@ -36,15 +36,10 @@ operands-are t =
     (refl ▸ refl ▸ refl ▸ refl ▸ refl ▸ refl ▸ refl ▸ refl ▸ refl ▸ refl ▸ refl ▸ refl ▸ refl ▸ refl ▸ refl ▸ refl ▸ refl ▸ refl ▸ end)
 
 -- and where they are an operation's, the first is that of all
-pub operation-operands : (k : ℕ) → k < 18 → 4 ≤ k → k < 12 → (t : ℕ) → take (countOf k) (firstOf k ∷ firstOf k ∷ []) ≡ operandsOf k t
+pub operation-operands : (t k : ℕ) → 4 ≤ k → k < 12 → take (countOf k) (firstOf k ∷ firstOf k ∷ []) ≡ operandsOf k t
 unfolding operandsOf
-operation-operands =
-    every-kind (λ k. 4 ≤ k → k < 12 → (t : ℕ) → take (countOf k) (firstOf k ∷ firstOf k ∷ []) ≡ operandsOf k t)
-    ((λ low high. absurd (omega arith)) ▸ (λ low high. absurd (omega arith)) ▸ (λ low high. absurd (omega arith)) ▸ (λ low high. absurd (omega arith))
-    ▸ (λ low high t. refl) ▸ (λ low high t. refl) ▸ (λ low high t. refl) ▸ (λ low high t. refl)
-    ▸ (λ low high t. refl) ▸ (λ low high t. refl) ▸ (λ low high t. refl) ▸ (λ low high t. refl)
-    ▸ (λ low high. absurd (omega arith)) ▸ (λ low high. absurd (omega arith)) ▸ (λ low high. absurd (omega arith))
-    ▸ (λ low high. absurd (omega arith)) ▸ (λ low high. absurd (omega arith)) ▸ (λ low high. absurd (omega arith)) ▸ end)
+operation-operands t = kinds-between (λ k. take (countOf k) (firstOf k ∷ firstOf k ∷ []) ≡ operandsOf k t)
+    (refl ▸ refl ▸ refl ▸ refl ▸ refl ▸ refl ▸ refl ▸ refl ▸ end)
 
 -- two columns are the same up to row n
 unfoldable pub sameColumn : (ℕ → ℕ) → (ℕ → ℕ) → ℕ → Bool

@@ -1,5 +1,5 @@
 -- The laws of a reading that gives something: what its own bytes show, how its operands read, where it ends, what it owns.
-use Prim.Native.Nat.{ℕ, zero, suc, _+_, _≤_, _<_}
+use Prim.Native.Nat.{ℕ, zero, suc, _+_, _-_, _≤_, _<_}
 use mathlib.Core.Path.{_≡_, refl, sym, ap, _∙_}
 use mathlib.Core.Bool.{Bool, true, false, cond}
 use mathlib.Core.List.{List, [], _∷_, _++_, append-nil}
@@ -157,7 +157,13 @@ row-at P end i l = absurd (omega arith)
 row-at P {k} (p ▸ ps) zero l = let e : k + 0 ≡ k = omega arith in rw e p
 row-at P {k} (p ▸ ps) (suc i) l = let e : k + suc i ≡ suc k + i = omega arith in rw e (row-at P ps i (omega arith))
 
--- what is shown of each of the 18 rows of the table holds of every kind
+-- what is shown of some rows of the table, one behind the other, holds of every kind between them
+pub kinds-between : (P : ℕ → Type 0) {low n : ℕ} → Rows P low n → (k : ℕ) → low ≤ k → k < low + n → P k
+kinds-between P {low} rows k above below =
+    let e : low + (k - low) ≡ k = omega arith in
+    rw e at (row-at P rows (k - low) (omega arith))
+
+-- and of each of the 18 rows, of every kind
 pub every-kind : (P : ℕ → Type 0) → Rows P 0 18 → (k : ℕ) → k < 18 → P k
 every-kind P rows k l = rw zero-add at (row-at P rows k l)
 

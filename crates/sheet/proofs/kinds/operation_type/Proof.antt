@@ -16,7 +16,7 @@ returns c asked =
     let kind = start .args .kind in
     let known : kind < 18 = omega arith in
     rw (c .digit .ensures ∙ column-is 0o410000111100100000 firstOf refl kind known)
-    (operation-operands kind known (start .pre .0) (start .pre .1) asked)
+    (operation-operands asked kind (start .pre .0) (start .pre .1))
 
 pub operation-type-spec : {M : Type 1} → statement M
 operation-type-spec = tie.close (tie.spec digit-requires returns)

@@ -165,7 +165,8 @@ table =
           ∷ [];
     }
     -- F
-    ∷ alone (single [] (17 ∷ 1 ∷ 5 ∷ 0 ∷ 0 ∷ 0 ∷ 8 ∷ 2 ∷ 0 ∷ one-number)) (on [] (5 ∷ []) ∷ on [] (6 ∷ []) ∷ on [] (7 ∷ []) ∷ [])
+    ∷ alone (single [] (17 ∷ 1 ∷ 5 ∷ 0 ∷ 0 ∷ 0 ∷ 8 ∷ 2 ∷ 0 ∷ one-number))
+    (on [] (5 ∷ []) ∷ on [] (6 ∷ []) ∷ on [] (7 ∷ []) ∷ [])
     -- G
     ∷ alone (single (0 ∷ []) (13 ∷ 3 ∷ 0 ∷ (ten-then-twenty ++ zero-number)))
     (on (1 ∷ []) (10 ∷ []) ∷ on (0 ∷ []) (0 ∷ []) ∷ on (1 ∷ []) (20 ∷ []) ∷ [])

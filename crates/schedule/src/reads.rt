@@ -7,7 +7,6 @@ ghost use lib.ListN.{getD};
 ghost use Rattle.schedule.specs.Reads.{namedWires, Joins, Own, ReadsAt, Gathers};
 
 // The wires that an expression reads within the instant, where it ends, and the number of the first cell past its own.
-// In this order of fields the walk is faster.
 pub struct ReadsFound {
     pub next: usize,
     pub reads: Wires,

@@ -28,7 +28,7 @@ const FIRST: u64 = 0o410000111100100000;
 const LATER: u64 = 0o400444111100000000;
 
 // The digit of a column for a kind.
-pub fn digit(column: u64, kind: u8) -> u8
+fn digit(column: u64, kind: u8) -> u8
     requires { ⌜ kind < 18 ⌝ }
     ensures { λ r. ⌜ r ≡ digitOf column kind ⌝ }
 {

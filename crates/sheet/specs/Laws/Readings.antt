@@ -170,7 +170,8 @@ every-kind P rows k l = rw zero-add at (row-at P rows k l)
 pub operands-counted : (t k : ℕ) → k < 18 → length (operandsOf k t) ≡ countOf k
 unfolding operandsOf
 operands-counted t = every-kind (λ k. length (operandsOf k t) ≡ countOf k)
-    (refl ▸ refl ▸ refl ▸ refl ▸ refl ▸ refl ▸ refl ▸ refl ▸ refl ▸ refl ▸ refl ▸ refl ▸ refl ▸ refl ▸ refl ▸ refl ▸ refl ▸ refl ▸ end)
+    (refl ▸ refl ▸ refl ▸ refl ▸ refl ▸ refl ▸ refl ▸ refl ▸ refl
+    ▸ refl ▸ refl ▸ refl ▸ refl ▸ refl ▸ refl ▸ refl ▸ refl ▸ refl ▸ end)
 
 -- the form of the cell that an expression itself owns, by its kind: a pre's with its constant, or an fby's
 abbrev pub ownForms : ℕ → ValueType → ℕ → List CellForm
@@ -206,7 +207,8 @@ FormsOfKind k = (type : ValueType) (body : ℕ) (os : List Expression) → lengt
 pub forms-of-kind : (k : ℕ) → k < 18 → FormsOfKind k
 unfolding meaningOf cellForms
 forms-of-kind = every-kind FormsOfKind
-    (none ▸ none ▸ none ▸ none ▸ one ▸ one ▸ two ▸ two ▸ two ▸ two ▸ two ▸ two ▸ three ▸ three ▸ two ▸ of-pre ▸ of-pre ▸ of-fby ▸ end)
+    (none ▸ none ▸ none ▸ none ▸ one ▸ one ▸ two ▸ two ▸ two ▸ two ▸ two ▸ two
+    ▸ three ▸ three ▸ two ▸ of-pre ▸ of-pre ▸ of-fby ▸ end)
   where
     none : ValueType → ℕ → (os : List Expression) → length os ≡ 0 → [] ≡ formsOf os
     none t b = forms-of-none
@@ -231,7 +233,8 @@ forms-of-kind = every-kind FormsOfKind
 
 pub own-forms-length : (type : ValueType) (body k : ℕ) → k < 18 → length (ownForms k type body) ≡ cellsOf k
 own-forms-length type body = every-kind (λ k. length (ownForms k type body) ≡ cellsOf k)
-    (refl ▸ refl ▸ refl ▸ refl ▸ refl ▸ refl ▸ refl ▸ refl ▸ refl ▸ refl ▸ refl ▸ refl ▸ refl ▸ refl ▸ refl ▸ refl ▸ refl ▸ refl ▸ end)
+    (refl ▸ refl ▸ refl ▸ refl ▸ refl ▸ refl ▸ refl ▸ refl ▸ refl
+    ▸ refl ▸ refl ▸ refl ▸ refl ▸ refl ▸ refl ▸ refl ▸ refl ▸ refl ▸ end)
 
 pub forms-length : (e : Expression) → length (cellForms e) ≡ cellCount e
 unfolding cellForms cellCount

@@ -1,7 +1,6 @@
 -- The two calls side by side, from what each of them leaves, and demand 3 of them.
 use Prim.Native.Nat.{ℕ}
 use mathlib.Core.Path.{_≡_, sym, _∙_}
-use mathlib.Core.Bool.{Bool, true, false}
 use mathlib.Core.List.{List}
 use Rattle.sheet.specs.Outcomes.{result, followedBy}
 use Rattle.sheet.specs.declared.Refusal.{Refusal}
@@ -11,29 +10,31 @@ use Rattle.kernel.specs.declared.InRounds.{InRounds}
 use Rattle.kernel.specs.declared.InRounds.the-variants.{Refused as RefusedInRounds, Accepted as AcceptedInRounds}
 use Rattle.kernel.specs.declared.Scheduled.{Scheduled}
 use Rattle.kernel.specs.declared.Scheduled.the-variants.{Refused as RefusedScheduled, Accepted as AcceptedScheduled}
+use Rattle.instant.specs.declared.agreement.Together.{Together}
+use Rattle.instant.specs.declared.agreement.Together.the-variants.{NotAccepted, Accepted}
 use Rattle.instant.specs.Leaves.{Leaves}
-use Rattle.instant.specs.Agreement.{bothAccepted, Beside, BothGiven, Agreed}
+use Rattle.instant.specs.Agreement.{bothAnswers, Beside, BothGiven, Agreed}
 
 -- the answers, case by case
-pub first-refused : {x : InRounds} (y : Scheduled) {why : Refusal} {place : ℕ} → x ≡ RefusedInRounds why place → false ≡ bothAccepted x y
+pub first-refused : {x : InRounds} (y : Scheduled) {why : Refusal} {place : ℕ} → x ≡ RefusedInRounds why place → NotAccepted ≡ bothAnswers x y
 first-refused y e = rw e
 
 pub second-refused : {x : InRounds} {y : Scheduled} {rounds : ℕ} {why : Refusal} {place : ℕ} → x ≡ AcceptedInRounds rounds
-    → y ≡ RefusedScheduled why place → false ≡ bothAccepted x y
+    → y ≡ RefusedScheduled why place → NotAccepted ≡ bothAnswers x y
 second-refused e f = rw (e, f)
 
 pub none-refused : {x : InRounds} {y : Scheduled} {rounds : ℕ} → x ≡ AcceptedInRounds rounds → y ≡ AcceptedScheduled
-    → true ≡ bothAccepted x y
+    → Accepted rounds ≡ bothAnswers x y
 none-refused e f = rw (e, f)
 
-pub beside : {first : InstantCall InRounds} {second : InstantCall Scheduled} {x : InRounds} {y : Scheduled} {accepted : Bool}
-    {memory output copy other : List ℕ} → Leaves first x memory output → Leaves second y copy other → accepted ≡ bothAccepted x y
-    → Beside first second accepted memory output copy other
+pub beside : {first : InstantCall InRounds} {second : InstantCall Scheduled} {x : InRounds} {y : Scheduled} {answer : Together}
+    {memory output copy other : List ℕ} → Leaves first x memory output → Leaves second y copy other → answer ≡ bothAnswers x y
+    → Beside first second answer memory output copy other
 beside l m e = record { answers = rw (l .answers, m .answers) at e; inRounds = (l .stores, l .writes); along = (m .stores, m .writes) }
 
-pub agreed : {s memory input output copy other list : List ℕ} {accepted : Bool} {new row newCopy newRow : List ℕ}
-    → Beside (roundsCall s memory input output) (scheduledCall s copy input other list) accepted new row newCopy newRow
-    → (g : BothGiven s memory input output copy other list) → Agreed (g .given) accepted new row newCopy newRow
+pub agreed : {s memory input output copy other list : List ℕ} {answer : Together} {new row newCopy newRow : List ℕ}
+    → Beside (roundsCall s memory input output) (scheduledCall s copy input other list) answer new row newCopy newRow
+    → (g : BothGiven s memory input output copy other list) → Agreed (g .given) answer new row newCopy newRow
 unfolding roundsCall
 agreed {s} {memory} {input} {output} {copy} {other} {list} b g =
     let three = demand3 s memory input output other list (g .given) (g .second) (g .passes) (rw (g .copied) at (g .otherPasses))
@@ -43,6 +44,7 @@ agreed {s} {memory} {input} {output} {copy} {other} {list} b g =
     rw (g .passes) (demand2 (g .given) .accepted (three .full)) in
     record {
       both = rw (g .copied, three .inRoundsAccepted, three .scheduledAccepted) at (b .answers);
+      few = three .few;
       memories = rw (g .copied) at (b .along .0) ∙ sym (three .sameMemory) ∙ sym (b .inRounds .0);
       outputs = rw (g .copied) at (b .along .1) ∙ sym (three .sameOutput) ∙ sym (b .inRounds .1);
       stores = rw e at (b .inRounds .0);

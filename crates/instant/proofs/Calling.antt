@@ -172,8 +172,8 @@ module _ {s memory input output : List ℕ} {inputs wires outputs : ℕ} (l : La
         first = firstAt s inputs wires outputs;
         running = l .running;
         starts = sited;
-        wires = λ p m. rw (l .wired) at (h .wires p (omega (arith, h .counted)));
-        once = λ p q m k e. h .once p q m (omega (arith, h .counted)) e;
+        wires = λ p m. rw (l .wired) at (h .wires p m);
+        once = h .once;
         room = room;
       }
 

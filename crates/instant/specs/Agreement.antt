@@ -1,30 +1,31 @@
 -- What the two calls leave side by side, and what demand 3 asks and promises of them.
-use Prim.Native.Nat.{ℕ}
+use Prim.Native.Nat.{ℕ, suc, _≤_}
 use mathlib.Core.Path.{_≡_}
-use mathlib.Core.Bool.{Bool, true, false}
 use mathlib.Core.List.{List}
 use Rattle.sheet.specs.Outcomes.{result}
 use Rattle.sheet.specs.Memory.{memoryBytes}
 use Rattle.sheet.specs.Rows.{rowBytes}
-use Rattle.kernel.specs.Instants.{nextMemory, outputRow}
+use Rattle.kernel.specs.Instants.{wireCount, nextMemory, outputRow}
 use Rattle.kernel.specs.Schedules.{IsSchedule}
 use Rattle.kernel.specs.Calls.{Given, givenOf, InstantCall}
-use Rattle.kernel.specs.Laws.Demands.{givenFinished}
+use Rattle.kernel.specs.Laws.Demands.{givenFinished, givenRounds}
 use Rattle.kernel.specs.declared.InRounds.{InRounds}
 use Rattle.kernel.specs.declared.InRounds.the-variants.{Refused as RefusedInRounds, Accepted as AcceptedInRounds}
 use Rattle.kernel.specs.declared.Scheduled.{Scheduled}
 use Rattle.kernel.specs.declared.Scheduled.the-variants.{Refused as RefusedScheduled, Accepted as AcceptedScheduled}
+use Rattle.instant.specs.declared.agreement.Together.{Together}
+use Rattle.instant.specs.declared.agreement.Together.the-variants.{NotAccepted, Accepted}
 
--- neither answer is a refusal
-abbrev pub bothAccepted : InRounds → Scheduled → Bool
-bothAccepted (RefusedInRounds why place) along = false
-bothAccepted (AcceptedInRounds rounds) (RefusedScheduled why place) = false
-bothAccepted (AcceptedInRounds rounds) AcceptedScheduled = true
+-- the rounds, where neither answer is a refusal
+abbrev pub bothAnswers : InRounds → Scheduled → Together
+bothAnswers (RefusedInRounds why place) along = NotAccepted
+bothAnswers (AcceptedInRounds rounds) (RefusedScheduled why place) = NotAccepted
+bothAnswers (AcceptedInRounds rounds) AcceptedScheduled = Accepted rounds
 
--- what the two calls leave, on any buffers, and whether both are accepted
-pub record Beside (first : InstantCall InRounds) (second : InstantCall Scheduled) (accepted : Bool) (memory output copy other : List ℕ)
+-- what the two calls answer and leave, on any buffers
+pub record Beside (first : InstantCall InRounds) (second : InstantCall Scheduled) (answer : Together) (memory output copy other : List ℕ)
     : Type 0 where
-  pub answers : accepted ≡ bothAccepted (first .answer) (second .answer)
+  pub answers : answer ≡ bothAnswers (first .answer) (second .answer)
   pub inRounds : (memory ≡ first .memory) × (output ≡ first .output)
   pub along : (copy ≡ second .memory) × (other ≡ second .output)
 
@@ -37,9 +38,10 @@ pub record BothGiven (s memory input output copy other list : List ℕ) : Type 0
   pub otherPasses : givenOf s copy input other ≡ result second
   pub schedule : IsSchedule (given .sheet) list
 
--- both are accepted, and leave the bytes that the finished values set
-pub record Agreed (given : Given) (accepted : Bool) (memory output copy other : List ℕ) : Type 0 where
-  pub both : accepted ≡ true
+-- both are accepted, after at most one round more than there are wires, and leave the bytes that the finished values set
+pub record Agreed (given : Given) (answer : Together) (memory output copy other : List ℕ) : Type 0 where
+  pub both : answer ≡ Accepted (givenRounds given)
+  pub few : givenRounds given ≤ suc (wireCount (given .sheet))
   pub memories : copy ≡ memory
   pub outputs : other ≡ output
   pub stores : memory ≡ memoryBytes (nextMemory (given .sheet) (given .inputs) (given .memory) (givenFinished given))

@@ -4,7 +4,13 @@ use kernel::Scheduled;
 ghost use Rattle.kernel.specs.Calls.{roundsCall, scheduledCall};
 ghost use Rattle.instant.specs.Agreement.{Beside, BothGiven, Agreed};
 
-// Whether the instant in rounds, on `memory` and `output`, and the instant along a schedule, on `copy` and `other`, are both accepted.
+// What the two instants answer together: the rounds, where both are accepted.
+pub enum Together {
+    NotAccepted,
+    Accepted { rounds: usize },
+}
+
+// The instant in rounds, on `memory` and `output`, and the instant along a schedule, on `copy` and `other`.
 pub fn both(
     sheet: &[u8],
     input: &[u8],
@@ -13,7 +19,7 @@ pub fn both(
     copy: &mut [u8],
     other: &mut [u8],
     schedule: &[u8],
-) -> bool
+) -> Together
     ensures beside { λ r. ⌜ Beside
         (roundsCall (now (sheet .entry)) (now (memory .entry)) (now (input .entry)) (now (output .entry)))
         (scheduledCall (now (sheet .entry)) (now (copy .entry)) (now (input .entry)) (now (other .entry)) (now (schedule .entry)))
@@ -24,11 +30,11 @@ pub fn both(
 {
     let in_turn = crate::in_rounds(sheet, memory, input, output);
     let along = crate::along_schedule(sheet, copy, input, other, schedule);
-    let InRounds::Accepted { rounds: _ } = in_turn else {
-        return false;
+    let InRounds::Accepted { rounds } = in_turn else {
+        return Together::NotAccepted;
     };
     let Scheduled::Accepted = along else {
-        return false;
+        return Together::NotAccepted;
     };
-    true
+    Together::Accepted { rounds }
 }

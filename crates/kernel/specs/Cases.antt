@@ -182,7 +182,7 @@ table =
     ∷ alone (single [] (8 ∷ 1 ∷ 255 ∷ 255 ∷ 255 ∷ 127 ∷ one-number)) (step [] (accepts 2 (minus 2147483648 ∷ [])) ∷ [])
     -- K
     ∷ alone (single [] (5 ∷ 1 ∷ 0 ∷ 0 ∷ 0 ∷ 128 ∷ [])) (step [] (accepts 2 (minus 2147483648 ∷ [])) ∷ [])
-    -- L; that no list passes is a theorem of Laws/Cases
+    -- L; that the scheduled instant is refused on every list is `crossed-refused` of Laws/Cases
     ∷ record {
       sheet = crossedSheet 13;
       steps =

@@ -1,4 +1,5 @@
 pub mod Lists
+pub mod Pigeonhole
 pub mod Order
 pub mod Equality
 pub mod Counting
@@ -15,5 +16,6 @@ pub mod Demands
 pub mod Typing
 pub mod Storing
 pub mod Memory
-pub mod Places
+pub mod Refusals
+pub mod Answers
 pub mod Cases

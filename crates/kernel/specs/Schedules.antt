@@ -36,18 +36,19 @@ scheduleOf sheet list =
     (unlessAny ScheduleOrder (tooEarly list (readsAt (sheet .expressions))) (wireCount sheet)
     (result list)))
 
--- a list as demand 3 has it, which is just what passes: it names each wire once and nothing else, and every wire after all the wires
--- that it reads within the instant
+-- a position before p names w
 pub record Earlier (list : List ℕ) (p w : ℕ) : Type 0 where
   pub position : ℕ
   pub before : position < p
   pub names : entryAt list position ≡ w
 
+-- a list as demand 3 has it, which is just what passes: it names each wire, once, and nothing else, and every wire after all the wires
+-- that it reads within the instant
 pub record IsSchedule (sheet : Sheet) (list : List ℕ) : Type 0 where
-  pub counted : length list ≡ wireCount sheet
-  pub wires : (p : ℕ) → p < wireCount sheet → entryAt list p < wireCount sheet
-  pub once : (p q : ℕ) → p < q → q < wireCount sheet → entryAt list p ≡ entryAt list q → ⊥
-  pub ordered : (p : ℕ) → p < wireCount sheet → Every (Earlier list p) (readsAt (sheet .expressions) (entryAt list p))
+  pub named : (w : ℕ) → w < wireCount sheet → Earlier list (length list) w
+  pub once : (p q : ℕ) → p < q → q < length list → entryAt list p ≡ entryAt list q → ⊥
+  pub wires : (p : ℕ) → p < length list → entryAt list p < wireCount sheet
+  pub ordered : (p : ℕ) → p < length list → Every (Earlier list p) (readsAt (sheet .expressions) (entryAt list p))
 
 module _ (sheet : Sheet) (inputs : List Datum) (memory : List Cell) where
   -- at each position the wire gets what its expression yields under the values so far

@@ -30,6 +30,11 @@ module _ (next : List Value → List Value) where
   unfoldable pub Solution : List Value → Type 0
   Solution values = next values ≡ values
 
+  -- the least solution, as document 01 has it: it knows a wire only where all solutions know it, with the same value
+  pub record LeastSolution (values : List Value) : Type 0 where
+    pub solves : Solution values
+    pub least : (s : List Value) → Solution s → values ⊑* s
+
   unfoldable pub visit : ℕ → List Value → List Value
   visit w values = set values w (valueAt (next values) w)
 

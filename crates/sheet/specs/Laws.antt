@@ -4,5 +4,5 @@ pub mod Readings
 pub mod Headers
 pub mod Typing
 pub mod Memory
-pub mod Places
+pub mod Refusals
 pub mod Examples

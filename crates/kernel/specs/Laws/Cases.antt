@@ -1,4 +1,4 @@
--- The table of worked cases holds, and the sheet of case L has no schedule.
+-- The table of worked cases holds, and the scheduled instant is refused on every list for the sheet of case L.
 use mathlib.Core.Path.{_≡_, refl, sym, ap, subst, _∙_}
 use Prim.Native.Nat.{ℕ, zero, suc}
 use native.Mathlib.Omega.{arith}
@@ -10,7 +10,7 @@ use Rattle.sheet.specs.Data.{boolean, number}
 use Rattle.sheet.specs.Expressions.{constant, wire, input, unary, binary, choose, cellForms, cellCount}
 use Rattle.sheet.specs.Expressions.{negative, sum, Choice, conditional, present}
 use Rattle.sheet.specs.Kinds.{meaningOf, operandsOf}
-use Rattle.sheet.specs.Outcomes.{result, lowest}
+use Rattle.sheet.specs.Outcomes.{Outcome, refusal, result, followedBy, lowest}
 use Rattle.sheet.specs.Readings.{readEach, namesOf, bodyFrom, ownOf, readExpression}
 use Rattle.sheet.specs.Headers.{fieldOf, bytesOf, sectionOf}
 use Rattle.sheet.specs.Sheets.{Sheet, formsOf, outputsFrom, wiresFrom, readSheet, sheetOf}
@@ -18,22 +18,27 @@ use Rattle.sheet.specs.Memory.{memoryBytes, invalidAt, cellsFrom, memoryOf, sta
 use Rattle.sheet.specs.Rows.{rowBytes, wrongAt, dataFrom, inputsOf}
 use Rattle.sheet.specs.Laws.Outcomes.{same-result}
 use Rattle.sheet.specs.declared.Datum.the-variants.{Boolean, Number}
+use Rattle.sheet.specs.declared.Refusal.{Refusal}
 use Rattle.kernel.specs.Order.{valueAt}
 use Rattle.kernel.specs.Values.{IsKnown, known}
 use Rattle.kernel.specs.Equality.{sameDatum, sameValue, sameValues}
-use Rattle.kernel.specs.Lists.{among, allAmong, Every}
+use Rattle.kernel.specs.Lists.{among, allAmong}
 use Rattle.kernel.specs.Reads.{wiresRead}
 use Rattle.kernel.specs.Instant.{value, kept, stored}
 use Rattle.kernel.specs.Systems as System
 use Rattle.kernel.specs.Systems.{Full}
 use Rattle.kernel.specs.Instants.{readsAt, valueOfWire, values, storedCells, round, rounds, finished, nextMemory, outputRow}
-use Rattle.kernel.specs.Schedules.{entryAt, notNew, tooEarly, scheduleOf, passFrom, pass, Earlier, IsSchedule}
-use Rattle.kernel.specs.Calls.{givenOf, placeOfUnknown, acceptedOf, inRounds, scheduled, roundsCall, scheduledCall}
+use Rattle.kernel.specs.Schedules.{entryAt, notNew, tooEarly, scheduleOf, passFrom, pass}
+use Rattle.kernel.specs.Calls.{Given, givenOf, placeOfUnknown, acceptedOf, inRounds, scheduled, scheduledAnswer}
+use Rattle.kernel.specs.Calls.{roundsCall, scheduledCall}
 use Rattle.kernel.specs.Cases.{sameBytes, all, agrees, holdsFrom, holds, crossedSheet, table}
 use Rattle.kernel.specs.Laws.Lists.{never}
-use Rattle.kernel.specs.Laws.Schedules.{schedule-passes, pass-full-of, pass-finished}
+use Rattle.kernel.specs.Laws.Given.{given-by}
+use Rattle.kernel.specs.Laws.Schedules.{Passed, schedule-passed, pass-full-of, pass-finished}
 use Rattle.kernel.specs.declared.Value.{Value}
 use Rattle.kernel.specs.declared.Value.the-variants.{Unknown}
+use Rattle.kernel.specs.declared.Scheduled.{Scheduled}
+use Rattle.kernel.specs.declared.Scheduled.the-variants.{Refused}
 
 pub table-holds : all holds table ≡ true
 unfolding lowBits settled equals cellForms cellCount meaningOf operandsOf lowest
@@ -46,8 +51,8 @@ unfolding lowBits settled equals cellForms cellCount meaningOf operandsOf lowest
     sameBytes all agrees holdsFrom holds table
 table-holds = refl
 
--- Case L: no list passes. A schedule goes by reads alone. With `if` for `present` the sheet has the same reads, so that a schedule
--- would make all its wires known; yet they stay unknown.
+-- Case L: no list passes. Passing goes by reads alone. With `if` for `present` the sheet has the same reads, so that a list
+-- that passes would make all its wires known; yet they stay unknown.
 abbrev crossed : Choice → Sheet
 crossed choice = record {
   inputTypes = boolean ∷ number ∷ [];
@@ -84,18 +89,38 @@ crossed-unknown = refl
 unknown-differs : {v : Value} → IsKnown v → v ≡ Unknown → _≡_ {A = ℕ} 0 1
 unknown-differs known e = cc
 
-pub crossed-no-schedule : (sheet : Sheet) → sheetOf (crossedSheet 13) ≡ result sheet → (list : List ℕ) → IsSchedule sheet list → ⊥
-unfolding Full
-crossed-no-schedule sheet e list schedule =
-    let here = rw (same-result (sym e ∙ crossed-read)) at schedule in
-    let there : IsSchedule (crossed conditional) list = record {
+crossed-no-schedule : (list : List ℕ) → Passed (crossed present) list → ⊥
+unfolding Full tooEarly
+crossed-no-schedule list here =
+    let there : Passed (crossed conditional) list = record {
       counted = here .counted;
-      wires = here .wires;
-      once = here .once;
-      ordered = λ p l. subst (Every (Earlier list p)) (crossed-reads (entryAt list p)) (here .ordered p l);
+      new = here .new;
+      ordered = λ p l. rw (crossed-reads (entryAt list p)) at (here .ordered p l);
     } in
     let inputs = Boolean true ∷ Number (pos 5) ∷ [] in
-    let passed = schedule-passes (crossed conditional) list there in
-    let values = pass-finished (crossed conditional) inputs [] list passed in
-    let known = pass-full-of (crossed conditional) inputs [] list passed 0 (omega arith) in
+    let values = pass-finished (crossed conditional) inputs [] list there in
+    let known = pass-full-of (crossed conditional) inputs [] list there 0 (omega arith) in
     never (unknown-differs known (ap (λ (xs : List Value). valueAt xs 0) values ∙ crossed-unknown))
+
+-- whatever list the scheduled instant is given, and on whatever buffers, it is refused
+pub record IsRefused (answer : Scheduled) : Type 0 where
+  pub why : Refusal
+  pub place : ℕ
+  pub refused : answer ≡ Refused why place
+
+pub crossed-refused : (memory row output list : List ℕ) → IsRefused (scheduledCall (crossedSheet 13) memory row output list .answer)
+unfolding scheduledCall scheduled
+crossed-refused memory row output list = go (givenOf (crossedSheet 13) memory row output) refl
+  where
+    along : (given : Given) → given .sheet ≡ crossed present → (x : Outcome (List ℕ)) → scheduleOf (given .sheet) list ≡ x
+        → IsRefused (scheduledAnswer (followedBy x (λ order. acceptedOf given 0 (pass (given .sheet) (given .inputs) (given .memory) order))))
+    along given same (refusal why place) e = record { why = why; place = place; refused = refl }
+    along given same (result order) e =
+        absurd (crossed-no-schedule list (rw same at (schedule-passed (given .sheet) list order e .1)))
+
+    go : (x : Outcome Given) → givenOf (crossedSheet 13) memory row output ≡ x
+        → IsRefused (scheduledAnswer (followedBy x (λ given. scheduled given list)))
+    go (refusal why place) e = record { why = why; place = place; refused = refl }
+    go (result given) e =
+        along given (same-result (sym (given-by (crossedSheet 13) memory row output given e .sheet) ∙ crossed-read))
+        (scheduleOf (given .sheet) list) refl

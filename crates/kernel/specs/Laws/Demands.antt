@@ -5,15 +5,17 @@ use Prim.Native.Nat.{ℕ, suc, _≤_, _<_}
 use native.Mathlib.Omega.{arith}
 use mathlib.Core.Bool.{Bool, true, false}
 use mathlib.Core.List.{List}
-use borrow.Author.Tests.{lt-ltb}
+use mathlib.Core.Logic.{_⊎_, inl, inr}
+use lib.Dec.{ltb}
+use borrow.Author.Tests.{lt-ltb, ltb-true}
 use Rattle.sheet.specs.Outcomes.{refusal, result, followedBy, lowest}
 use Rattle.sheet.specs.Memory.{memoryBytes}
 use Rattle.sheet.specs.Rows.{rowBytes}
-use Rattle.sheet.specs.Laws.Lowest.{lowest-passes, lowest-first, lowest-below, none-lowest}
+use Rattle.sheet.specs.Laws.Lowest.{lowest-passes, lowest-first, lowest-below, lowest-found, lowest-none, none-lowest}
 use Rattle.sheet.specs.declared.Refusal.the-variants.{StaysUnknown}
 use Rattle.kernel.specs.Values.{isUnknown, IsKnown, known}
 use Rattle.kernel.specs.Order.{_⊑*_, valueAt}
-use Rattle.kernel.specs.Systems.{Full, Solution}
+use Rattle.kernel.specs.Systems.{Full, Solution, LeastSolution}
 use Rattle.kernel.specs.Instants.{wireCount, round, rounds, finished, nextMemory, outputRow}
 use Rattle.kernel.specs.Schedules.{IsSchedule, pass}
 use Rattle.kernel.specs.Calls.{Given, givenOf, placeOfUnknown, Accepted, acceptedOf, inRounds, scheduled, roundsCall, scheduledCall}
@@ -74,6 +76,23 @@ module _ (given : Given) (count : ℕ) (wires : List Value) where
         lowest = λ x m. not-unknown (valueAt wires x) (lowest-first test n x m);
       }
 
+  -- no wire is unknown, or the lowest that is is refused
+  pub accepted-or-refused : (Full (wireCount (given .sheet)) wires) ⊎ ((place : ℕ) × RefusedAt place)
+  unfolding Full
+  accepted-or-refused = go (ltb (lowest test n) n) refl
+    where
+      n : ℕ
+      n = wireCount (given .sheet)
+
+      test : ℕ → Bool
+      test w = isUnknown (valueAt wires w)
+
+      go : (t : Bool) → ltb (lowest test n) n ≡ t → (Full n wires) ⊎ ((place : ℕ) × RefusedAt place)
+      go true e =
+          let below = ltb-true (lowest test n) n e in
+          inr (_, refuses-unknown (lowest test n) below (unknown-is _ (lowest-found test n below)))
+      go false e = inl (λ w l. not-unknown (valueAt wires w) (lowest-none test n e w l))
+
 -- Demand 2.
 module _ (given : Given) where
   abbrev pub givenRound : List Value → List Value
@@ -106,6 +125,9 @@ module _ (given : Given) where
         few = rounds-bound (given .sheet) (given .inputs) (given .memory);
       }
 
+  pub least-finished : LeastSolution givenRound givenFinished
+  least-finished = record { solves = demand2 .solution; least = demand2 .least }
+
   -- along a schedule 20 never occurs
   pub scheduled-accepted : (list : List ℕ) → IsSchedule (given .sheet) list
       → (pass (given .sheet) (given .inputs) (given .memory) list ≡ givenFinished)
@@ -122,6 +144,7 @@ module _ (given : Given) where
 -- Demand 3: the two calls on copies of one memory, each with its own output row.
 pub record Demand3 (s memory input output other list : List ℕ) (given : Given) : Type 0 where
   pub values : pass (given .sheet) (given .inputs) (given .memory) list ≡ givenFinished given
+  pub least : LeastSolution (givenRound given) (givenFinished given)
   pub full : Full (wireCount (given .sheet)) (givenFinished given)
   pub inRoundsAccepted : roundsCall s memory input output .answer ≡ AcceptedInRounds (givenRounds given)
   pub scheduledAccepted : scheduledCall s memory input other list .answer ≡ AcceptedScheduled
@@ -144,6 +167,7 @@ module _ (s memory input output other list : List ℕ) (given second : Given)
       rw (otherPasses, ← same) along in
       record {
         values = values;
+        least = least-finished given;
         full = full;
         inRoundsAccepted = rw inTurn;
         scheduledAccepted = rw second;

@@ -21,6 +21,13 @@ use Rattle.sheet.specs.Laws.Lowest.{lowest-bound, lowest-passes, lowest-first}
 use Rattle.kernel.specs.declared.Value.{Value}
 use Rattle.kernel.specs.declared.Value.the-variants.{Unknown}
 
+-- the r-th round is the first that changes nothing
+pub record FirstUnchanged (n : ℕ) (next : List Value → List Value) (r : ℕ) : Type 0 where
+  pub before : ℕ
+  pub counted : r ≡ suc before
+  pub unchanged : after n next before ≡ after n next r
+  pub changed : (k : ℕ) → k < before → after n next k ≡ after n next (suc k) → ⊥
+
 -- what is below its own round keeps its known wires under a round
 pub keeps-known : (next : List Value → List Value) (xs : List Value) → xs ⊑* next xs
     → (w : ℕ) → IsKnown (valueAt xs w) → valueAt xs w ≡ valueAt (next xs) w
@@ -88,6 +95,12 @@ module _ (n : ℕ) (next : List Value → List Value) (system : Monotone n next)
       let f = lowest-first (unchanged n next) n k (omega arith) in
       let t : sameValues (after n next k) (after n next (suc k)) ≡ true = rw e (values-refl (after n next (suc k))) in
       never (cc)
+
+  pub rounds-first : FirstUnchanged n next (rounds n next)
+  unfolding rounds finished
+  rounds-first =
+      let l = lowest (unchanged n next) n in
+      record { before = l; counted = refl; unchanged = last-unchanged l refl; changed = λ k m. earlier-changed k (omega arith) }
 
   -- it is known by these two
   pub rounds-unique : (k : ℕ) → after n next k ≡ after n next (suc k)

@@ -20,6 +20,7 @@ use Rattle.kernel.specs.Order.{valueAt, allUnknown}
 use Rattle.kernel.specs.Systems.{Full, visit, visits}
 use Rattle.kernel.specs.Instants.{wireCount, readsAt, round, finished}
 use Rattle.kernel.specs.Schedules.{entryAt, notNew, tooEarly, scheduleOf, Earlier, IsSchedule, passFrom, pass}
+use Rattle.kernel.specs.Laws.Pigeonhole.{at-most, at-least, each-met}
 use Rattle.kernel.specs.Laws.Lists.{never, neither, among-append, every-among, all-among}
 use Rattle.kernel.specs.Laws.Passes.{pass-full, pass-finishes}
 use Rattle.kernel.specs.Laws.Instants.{round-at, round-monotone, round-known}
@@ -80,49 +81,73 @@ module _ (list : List ℕ) where
           let earlier : h .position < p = omega (arith, h .before, eqb-false (h .position) p e) in
           rw (rest (record { position = h .position; before = earlier; names = h .names }))
 
+-- a schedule has as many positions as the sheet has wires
+pub schedule-counted : (sheet : Sheet) (list : List ℕ) → IsSchedule sheet list → length list ≡ wireCount sheet
+schedule-counted sheet list h =
+    let few = at-most (wireCount sheet) (length list) (entryAt list) (h .wires) (h .once) in
+    let many = at-least (wireCount sheet) (length list) (entryAt list)
+    (λ w l. let e = h .named w l in (e .position, e .before, e .names)) in
+    omega arith
+
 module _ (sheet : Sheet) (list : List ℕ) where
   pub passed-schedule : Passed sheet list → IsSchedule sheet list
   unfolding notNew tooEarly
-  passed-schedule h = record { counted = h .counted; wires = λ p l. wires p l; once = λ p q l m e. once p q l m e; ordered = λ p l. ordered p l }
+  passed-schedule h =
+      record { named = λ w l. named w l; once = λ p q l m e. once p q l m e; wires = λ p l. wires p l; ordered = λ p l. ordered p l }
     where
-      wires : (p : ℕ) → p < wireCount sheet → entryAt list p < wireCount sheet
-      wires p l =
-          let (inRange, new) = neither (not (ltb (entryAt list p) (wireCount sheet))) (among (entryAt list p) (take p list)) (h .new p l) in
-          ltb-true _ _ (not-false (ltb (entryAt list p) (wireCount sheet)) inRange)
+      here : {p : ℕ} → p < length list → p < wireCount sheet
+      here l = omega (arith, h .counted)
 
-      once : (p q : ℕ) → p < q → q < wireCount sheet → entryAt list p ≡ entryAt list q → ⊥
+      new : (p : ℕ) → p < length list
+          → (not (ltb (entryAt list p) (wireCount sheet)) ≡ false) × (among (entryAt list p) (take p list) ≡ false)
+      new p l = neither (not (ltb (entryAt list p) (wireCount sheet))) (among (entryAt list p) (take p list)) (h .new p (here l))
+
+      wires : (p : ℕ) → p < length list → entryAt list p < wireCount sheet
+      wires p l = ltb-true _ _ (not-false (ltb (entryAt list p) (wireCount sheet)) (new p l .0))
+
+      once : (p q : ℕ) → p < q → q < length list → entryAt list p ≡ entryAt list q → ⊥
       once p q l m e =
-          let c = h .counted in
-          let (inRange, new) = neither (not (ltb (entryAt list q) (wireCount sheet))) (among (entryAt list q) (take q list)) (h .new q m) in
           let named = earlier-named list q (omega arith) (entryAt list q) (record { position = p; before = l; names = e }) in
-          never (cc (named, new))
+          never (cc (named, new q m .1))
 
-      ordered : (p : ℕ) → p < wireCount sheet → Every (Earlier list p) (readsAt (sheet .expressions) (entryAt list p))
+      named : (w : ℕ) → w < wireCount sheet → Earlier list (length list) w
+      named w l =
+          let (p, k, e) = each-met (wireCount sheet) (entryAt list) (λ i m. wires i (omega (arith, h .counted)))
+          (λ i j m k e. once i j m (omega (arith, h .counted)) e) w l in
+          record { position = p; before = omega (arith, h .counted); names = e }
+
+      ordered : (p : ℕ) → p < length list → Every (Earlier list p) (readsAt (sheet .expressions) (entryAt list p))
       ordered p l =
-          let c = h .counted in
           every-among (Earlier list p) (take p list) (λ w a. named-earlier list p w (omega arith) a)
           (readsAt (sheet .expressions) (entryAt list p))
-          (not-false (allAmong (readsAt (sheet .expressions) (entryAt list p)) (take p list)) (h .ordered p l))
+          (not-false (allAmong (readsAt (sheet .expressions) (entryAt list p)) (take p list)) (h .ordered p (here l)))
 
   pub schedule-passes : IsSchedule sheet list → Passed sheet list
   unfolding notNew tooEarly
-  schedule-passes h = record { counted = h .counted; new = λ p l. new p l; ordered = λ p l. ordered p l }
+  schedule-passes h = record { counted = counted; new = λ p l. new p l; ordered = λ p l. ordered p l }
     where
+      counted : length list ≡ wireCount sheet
+      counted = schedule-counted sheet list h
+
+      here : {p : ℕ} → p < wireCount sheet → p < length list
+      here l = omega (arith, counted)
+
       new : (p : ℕ) → p < wireCount sheet → notNew list (wireCount sheet) p ≡ false
       new p l =
-          rw (lt-ltb (entryAt list p) (wireCount sheet) (h .wires p l)) (go (among (entryAt list p) (take p list)) refl)
+          rw (lt-ltb (entryAt list p) (wireCount sheet) (h .wires p (here l))) (go (among (entryAt list p) (take p list)) refl)
         where
           go : (t : Bool) → among (entryAt list p) (take p list) ≡ t → t ≡ false
           go false e = refl
           go true e =
-              let c = h .counted in
+              let inside : p < length list = here l in
               let before = named-earlier list p (entryAt list p) (omega arith) e in
-              absurd (h .once (before .position) p (before .before) l (before .names))
+              absurd (h .once (before .position) p (before .before) inside (before .names))
 
       ordered : (p : ℕ) → p < wireCount sheet → tooEarly list (readsAt (sheet .expressions)) p ≡ false
       ordered p l =
-          let c = h .counted in
-          rw (all-among (take p list) (earlier-named list p (omega arith)) (readsAt (sheet .expressions) (entryAt list p)) (h .ordered p l))
+          let inside : p < length list = here l in
+          rw (all-among (take p list) (earlier-named list p (omega arith)) (readsAt (sheet .expressions) (entryAt list p))
+          (h .ordered p inside))
 
 module _ (sheet : Sheet) (inputs : List Datum) (memory : List Cell) where
   -- the pass visits the wires of the list

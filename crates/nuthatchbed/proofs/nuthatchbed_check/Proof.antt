@@ -3,7 +3,8 @@ use mathlib.Core.Path.{sym, ap, _∙_}
 use native.Mathlib.Omega.{arith}
 use borrow.Author.Needs.{needs}
 use Rattle.sheet.specs.Sheets.{packedChecked}
-use Rattle.nuthatchbed.proofs.Answers.{checked-place, checked-cells}
+use Rattle.sheet.specs.Laws.Refusals.{check-refusals}
+use Rattle.nuthatchbed.proofs.Answers.{checked-cells}
 use Rattle.nuthatchbed.proofs.nuthatchbed_check.Statement.{statement}
 use Rattle.nuthatchbed.proofs.nuthatchbed_check.Tie as tie
 
@@ -14,7 +15,7 @@ enum-known-why : tie.Need-enum-known-why
 enum-known-why c = search needs
 
 packed-requires : tie.Need-packed-requires
-packed-requires c κs = checked-place _ (sym (c .before .before .before .check .ensures) ∙ c .before .why .given .1)
+packed-requires c κs = check-refusals _ (sym (c .before .before .before .check .ensures) ∙ c .before .why .given .1) .bounded
 
 enum-known-cells : tie.Need-enum-known-cells
 enum-known-cells c = search needs

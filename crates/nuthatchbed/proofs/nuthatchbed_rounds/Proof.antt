@@ -3,7 +3,7 @@ use mathlib.Core.Path.{sym, ap, _∙_}
 use native.Mathlib.Omega.{arith}
 use borrow.Author.Needs.{needs}
 use Rattle.kernel.specs.Calls.{packedRounds}
-use Rattle.nuthatchbed.proofs.Answers.{rounds-place, rounds-count}
+use Rattle.kernel.specs.Laws.Answers.{rounds-refusals, rounds-few}
 use Rattle.nuthatchbed.proofs.nuthatchbed_rounds.Statement.{statement}
 use Rattle.nuthatchbed.proofs.nuthatchbed_rounds.Tie as tie
 
@@ -15,14 +15,15 @@ enum-known-why c = search needs
 
 packed-requires : tie.Need-packed-requires
 packed-requires c κs =
-    rounds-place _ _ _ _ (sym (c .before .before .before .before .before .before .before .in-rounds .ensures .answers) ∙ c .before .why .given .1)
+    rounds-refusals _ _ _ _ (sym (c .before .before .before .before .before .before .before .in-rounds .ensures .answers)
+    ∙ c .before .why .given .1) .1
 
 enum-known-rounds : tie.Need-enum-known-rounds
 enum-known-rounds c = search needs
 
 cast-result : tie.Need-cast-result
 cast-result c =
-    let few = rounds-count _ _ _ _ (sym (c .before .before .before .before .before .before .before .in-rounds .ensures .answers)
+    let few = rounds-few _ _ _ _ (sym (c .before .before .before .before .before .before .before .in-rounds .ensures .answers)
     ∙ c .before .rounds .given .1) in
     record { fits = omega arith }
 

@@ -2,7 +2,7 @@
 use mathlib.Core.Path.{sym, ap, _∙_}
 use borrow.Author.Needs.{needs}
 use Rattle.kernel.specs.Calls.{packedScheduled}
-use Rattle.nuthatchbed.proofs.Answers.{scheduled-place}
+use Rattle.kernel.specs.Laws.Answers.{scheduled-refusals}
 use Rattle.nuthatchbed.proofs.nuthatchbed_scheduled.Statement.{statement}
 use Rattle.nuthatchbed.proofs.nuthatchbed_scheduled.Tie as tie
 
@@ -14,8 +14,8 @@ enum-known-why c = search needs
 
 packed-requires : tie.Need-packed-requires
 packed-requires c κs =
-    scheduled-place _ _ _ _ _ (sym (c .before .before .before .before .before .before .before .along-schedule .ensures .answers)
-    ∙ c .before .why .given .1)
+    scheduled-refusals _ _ _ _ _ (sym (c .before .before .before .before .before .before .before .along-schedule .ensures .answers)
+    ∙ c .before .why .given .1) .bounded
 
 enum-told : tie.Need-enum-told
 enum-told c = search needs

@@ -2,7 +2,7 @@
 use mathlib.Core.Path.{sym, ap, _∙_}
 use borrow.Author.Needs.{needs}
 use Rattle.sheet.specs.Memory.{packedStarted}
-use Rattle.nuthatchbed.proofs.Answers.{started-place}
+use Rattle.sheet.specs.Laws.Refusals.{start-refusals}
 use Rattle.nuthatchbed.proofs.nuthatchbed_start.Statement.{statement}
 use Rattle.nuthatchbed.proofs.nuthatchbed_start.Tie as tie
 
@@ -14,7 +14,7 @@ enum-known-why c = search needs
 
 packed-requires : tie.Need-packed-requires
 packed-requires c κs =
-    started-place _ _ (sym (c .before .before .before .before .before .start .ensures .0) ∙ c .before .why .given .1)
+    start-refusals _ _ (sym (c .before .before .before .before .before .start .ensures .0) ∙ c .before .why .given .1) .bounded
 
 enum-told : tie.Need-enum-told
 enum-told c = search needs

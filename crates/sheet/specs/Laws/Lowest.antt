@@ -65,6 +65,19 @@ lowest-below test (suc bound) j l p = go (test zero) refl (lowest-below (λ k. t
     go false e later zero l p = absurd (true≢false (sym p ∙ e))
     go false e later (suc j) l p = omega (arith, later j (omega arith) p)
 
+-- the lowest passes where it is below the bound
+pub lowest-found : (test : ℕ → Bool) (bound : ℕ) → lowest test bound < bound → test (lowest test bound) ≡ true
+unfolding lowest
+lowest-found test zero l = absurd (omega arith)
+lowest-found test (suc bound) l = go (test zero) refl (lowest-found (λ k. test (suc k)) bound) l
+  where
+    go : (t : Bool) → test zero ≡ t
+        → (lowest (λ k. test (suc k)) bound < bound → test (suc (lowest (λ k. test (suc k)) bound)) ≡ true)
+        → cond t zero (suc (lowest (λ k. test (suc k)) bound)) < suc bound
+        → test (cond t zero (suc (lowest (λ k. test (suc k)) bound))) ≡ true
+    go true e later l = e
+    go false e later l = later (omega arith)
+
 -- what a search from below finds is the lowest: it passes, unless it is the bound, and no smaller number does
 pub lowest-is : (test : ℕ → Bool) (bound r : ℕ) → r ≤ bound → (r < bound → test r ≡ true) → ((j : ℕ) → j < r → test j ≡ false)
     → r ≡ lowest test bound

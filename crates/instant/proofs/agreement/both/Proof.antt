@@ -14,11 +14,11 @@ in-rounds-requires c κs = search needs
 along-schedule-requires : tie.Need-along-schedule-requires
 along-schedule-requires c κs = search needs
 
+enum-known-in-turn : tie.Need-enum-known-in-turn
+enum-known-in-turn c = search needs
+
 enum-told : tie.Need-enum-told
 enum-told c = search needs
-
-enum-told-2 : tie.Need-enum-told-2
-enum-told-2 c = search needs
 
 same-length : tie.Need-same-length
 same-length c = search needs
@@ -35,15 +35,15 @@ same-length-4 c = search needs
 returns : tie.Need-returns
 returns c =
     let second = c .before .before .before .before .before .before in
-    let e = first-refused (second .along-schedule .result) (c .enum-told2 .given .1) in
+    let e = first-refused (second .along-schedule .result) (c .enum-told .given .1) in
     let b = beside (in-turn second .in-rounds .ensures) (second .along-schedule .ensures) e in
     (b, λ g. agreed b g)
 
+enum-told-2 : tie.Need-enum-told-2
+enum-told-2 c = search needs
+
 enum-told-3 : tie.Need-enum-told-3
 enum-told-3 c = search needs
-
-enum-told-4 : tie.Need-enum-told-4
-enum-told-4 c = search needs
 
 same-length-5 : tie.Need-same-length-5
 same-length-5 c = search needs
@@ -59,8 +59,8 @@ same-length-8 c = search needs
 
 returns-2 : tie.Need-returns-2
 returns-2 c =
-    let second = c .before .before .before .before .before .before .before .before in
-    let e = second-refused (c .before .before .enum-told .given .1) (c .enum-told4 .given .1) in
+    let second = c .before .before .before .before .before .before .before .before .before in
+    let e = second-refused (c .before .before .before .in-turn .given .1) (c .enum-told3 .given .1) in
     let b = beside (in-turn second .in-rounds .ensures) (second .along-schedule .ensures) e in
     (b, λ g. agreed b g)
 
@@ -78,8 +78,8 @@ same-length-12 c = search needs
 
 returns-3 : tie.Need-returns-3
 returns-3 c =
-    let second = c .before .before .before .before .before .before .before .before in
-    let e = none-refused (c .before .before .enum-told .given .1) (c .enum-told3 .given .1) in
+    let second = c .before .before .before .before .before .before .before .before .before in
+    let e = none-refused (c .before .before .before .in-turn .given .1) (c .enum-told2 .given .1) in
     let b = beside (in-turn second .in-rounds .ensures) (second .along-schedule .ensures) e in
     (b, λ g. agreed b g)
 
@@ -89,15 +89,15 @@ both-spec =
     (tie.spec
     in-rounds-requires
     along-schedule-requires
+    enum-known-in-turn
     enum-told
-    enum-told-2
     same-length
     same-length-2
     same-length-3
     same-length-4
     returns
+    enum-told-2
     enum-told-3
-    enum-told-4
     same-length-5
     same-length-6
     same-length-7

@@ -1,6 +1,6 @@
-/* The four calls as a table of functions, so that a test runs the library and the reference by the same code.
- *
- * Usage: included by the tests behind "library.h", and with "reference.h" before it where the reference is run too.
+/* The calls under test as a table: their names and rules, the buffers they are given, and an implementation of them as functions, so
+ * that a test runs the library and any other implementation by the same code. Rests on nothing; library.h and the implementations
+ * rest on it.
  */
 #ifndef CALLS_H
 #define CALLS_H
@@ -10,9 +10,29 @@
 
 enum call { call_check, call_start, call_rounds, call_scheduled, calls };
 
-static const char *const call_names[calls] = {"check", "start", "rounds", "scheduled"};
-
 enum role { role_sheet, role_memory, role_input, role_output, role_schedule, roles };
+
+static const char *const role_names[roles] = {"sheet", "memory", "input", "output", "schedule"};
+
+enum { refusals = 20, first_refusal = 65536 };
+
+/* The refusals that document 01 gives to a call, and the buffers that it may write where it is accepted: one bit for each. */
+struct call_rules {
+    const char *name;
+    uint32_t refusals;
+    uint32_t writes;
+};
+
+#define REFUSALS_FROM_TO(first, last) ((UINT32_C(2) << (last)) - (UINT32_C(1) << (first)))
+#define WRITES_MEMORY (UINT32_C(1) << role_memory)
+#define WRITES_MEMORY_AND_OUTPUT (WRITES_MEMORY | UINT32_C(1) << role_output)
+
+static const struct call_rules rules_of[calls] = {
+    [call_check] = {"check", REFUSALS_FROM_TO(1, 11), 0},
+    [call_start] = {"start", REFUSALS_FROM_TO(1, 12), WRITES_MEMORY},
+    [call_rounds] = {"rounds", REFUSALS_FROM_TO(1, 16) | REFUSALS_FROM_TO(20, 20), WRITES_MEMORY_AND_OUTPUT},
+    [call_scheduled] = {"scheduled", REFUSALS_FROM_TO(1, 19), WRITES_MEMORY_AND_OUTPUT},
+};
 
 /* What a call is given; the check takes the sheet alone, the start sheet and memory, and the rounds all but the schedule. */
 struct arguments {
@@ -29,12 +49,6 @@ struct implementation {
     uint32_t (*scheduled)(const uint8_t *, size_t, uint8_t *, size_t, const uint8_t *, size_t, uint8_t *, size_t, const uint8_t *,
                           size_t);
 };
-
-static const struct implementation library = {nuthatchbed_check, nuthatchbed_start, nuthatchbed_rounds, nuthatchbed_scheduled};
-
-#ifdef REFERENCE_H
-static const struct implementation reference = {reference_check, reference_start, reference_rounds, reference_scheduled};
-#endif
 
 /* An argument as the calls have it: a pointer and a length. */
 #define ARGUMENT(role) arguments->of[role].bytes, arguments->of[role].length

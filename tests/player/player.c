@@ -1,9 +1,7 @@
-/* The player of document 01 over the plain C reference: reads standard input and prints the rows. It is what the proved player's
- * output is compared with.
- *
- * Usage: cc -std=c11 -O2 -Wall -Wextra -Werror -Itests tests/reference_player.c tests/reference.c -o target/reference_player
+/* The player of document 01 over the evaluator: reads standard input and prints the rows. It is what the proved player's output is
+ * compared with. Rests on the evaluator.
  */
-#include "reference.h"
+#include "evaluator/evaluator.h"
 
 #include <stdio.h>
 
@@ -27,7 +25,7 @@ static int play_instant(const uint8_t *sheet, size_t length, uint8_t *memory, si
                         size_t outputs, unsigned long instant)
 {
     uint8_t output[most_row] = {0};
-    const uint32_t answer = reference_rounds(sheet, length, memory, 5 * cells, row, 4 * inputs, output, 4 * outputs);
+    const uint32_t answer = evaluator_rounds(sheet, length, memory, 5 * cells, row, 4 * inputs, output, 4 * outputs);
     if (answer >= 65536) {
         print_refusal(answer);
         return 0;
@@ -44,7 +42,7 @@ static void play_rows(const uint8_t *sheet, size_t length, size_t cells, const u
     const size_t inputs = sheet[0], wires = sheet[1 + inputs], outputs = sheet[2 + inputs + wires];
     uint8_t memory[most_memory] = {0};
     printf("sheet %zu %zu %zu %zu\n", inputs, wires, outputs, cells);
-    reference_start(sheet, length, memory, 5 * cells);
+    evaluator_start(sheet, length, memory, 5 * cells);
     const size_t turns = inputs == 0 ? instants_without_inputs : left / (4 * inputs);
     for (size_t instant = 0; instant < turns; instant++) {
         if (!play_instant(sheet, length, memory, cells, rows + 4 * inputs * instant, inputs, outputs, (unsigned long)instant))
@@ -61,7 +59,7 @@ int main(void)
         printf("short\n");
         return 0;
     }
-    const uint32_t cells = reference_check(stream + 2, length);
+    const uint32_t cells = evaluator_check(stream + 2, length);
     if (cells >= 65536)
         print_refusal(cells);
     else

@@ -1,17 +1,15 @@
 #!/usr/bin/env python3
-"""Compares the proved player with the player over the C reference: on the examples, on edge cases and on random inputs.
+"""Compares the proved player with the player over the evaluator: on the examples, on edge cases and on random inputs.
 
-Usage: tests/player.py, after 'rt check player' has written target/bin/player. It needs a C compiler (cc, or the one that CC names).
+Usage: tests/player/player.py EVALUATOR_PLAYER, the program of player.c, after 'rt check player' has written target/bin/player.
 A mismatch prints the input's bytes. The last line is 'player: N passed, M failed'; the exit status is 0 only where nothing failed.
 """
-import os
 import pathlib
 import random
 import subprocess
 import sys
-import tempfile
 
-ROOT = pathlib.Path(__file__).resolve().parent.parent
+ROOT = pathlib.Path(__file__).resolve().parent.parent.parent
 PLAYER = ROOT / 'target/bin/player'
 MOST = 65536
 SEED = 1
@@ -145,22 +143,14 @@ def cases():
         yield f'random sheet {i}', well_formed(rng)
 
 
-def build_reference(folder):
-    reference = folder / 'reference_player'
-    tests = ROOT / 'tests'
-    subprocess.run([os.environ.get('CC', 'cc'), '-std=c11', '-O2', '-Wall', '-Wextra', '-Werror', f'-I{tests}',
-                    tests / 'reference_player.c', tests / 'reference.c', '-o', reference], check=True)
-    return reference
-
-
 def played(program, data):
     done = subprocess.run([program], input=data, stdout=subprocess.PIPE, timeout=60)
     return done.stdout if done.returncode == 0 else done.stdout + b'exit status %d\n' % done.returncode
 
 
-def expected_of(reference, name, data):
+def expected_of(evaluator, name, data):
     """What is to be printed: an example's own file says so too."""
-    expected = played(reference, data)
+    expected = played(evaluator, data)
     own = ROOT / 'examples' / name / 'expected'
     return [expected, own.read_bytes()] if own.is_file() else [expected]
 
@@ -168,24 +158,25 @@ def expected_of(reference, name, data):
 def report(name, data, got, expected):
     print(f'player: {name} differs, on {len(data)} bytes: {" ".join(str(byte) for byte in data)}')
     print(f'  the player printed {got!r}')
-    print(f'  the reference printed {expected[0]!r}')
+    print(f'  the evaluator printed {expected[0]!r}')
 
 
 def main():
+    if len(sys.argv) != 2:
+        print('usage: tests/player/player.py EVALUATOR_PLAYER', file=sys.stderr)
+        return 2
     passed = failed = 0
     kinds = {}
-    with tempfile.TemporaryDirectory() as folder:
-        reference = build_reference(pathlib.Path(folder))
-        for name, data in cases():
-            expected = expected_of(reference, name, data)
-            got = played(PLAYER, data)
-            if all(got == text for text in expected):
-                passed += 1
-            else:
-                failed += 1
-                report(name, data, got, expected)
-            kind = expected[0].split()[0].decode()
-            kinds[kind] = kinds.get(kind, 0) + 1
+    for name, data in cases():
+        expected = expected_of(sys.argv[1], name, data)
+        got = played(PLAYER, data)
+        if all(got == text for text in expected):
+            passed += 1
+        else:
+            failed += 1
+            report(name, data, got, expected)
+        kind = expected[0].split()[0].decode()
+        kinds[kind] = kinds.get(kind, 0) + 1
     print('player: first words expected: ' + ', '.join(f'{kind} {count}' for kind, count in sorted(kinds.items())))
     print(f'player: {passed} passed, {failed} failed')
     return failed != 0

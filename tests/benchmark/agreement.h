@@ -1,0 +1,13 @@
+/* Whether the yardsticks do what the library does. Rests on the sheets and the times. */
+#ifndef BENCHMARK_AGREEMENT_H
+#define BENCHMARK_AGREEMENT_H
+
+#include "benchmark/sheets.h"
+
+#include <stdbool.h>
+
+/* Starts the memories of a group that has none yet, and makes every call of every sheet, instant after instant, by the library and by
+ * the yardsticks: each must be accepted, with the same answer and the same bytes. Else what differs is printed, and false answered. */
+bool prepare_group(struct group *group);
+
+#endif

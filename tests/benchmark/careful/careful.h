@@ -1,0 +1,22 @@
+/* The calls as careful C has them, for speed: the benchmark's second yardstick. They answer as the evaluator does. Rests on the table
+ * of calls.
+ */
+#ifndef CAREFUL_H
+#define CAREFUL_H
+
+#include "common/calls.h"
+
+uint32_t careful_check(const uint8_t *sheet, size_t sheet_length);
+
+uint32_t careful_start(const uint8_t *sheet, size_t sheet_length, uint8_t *memory, size_t memory_length);
+
+uint32_t careful_rounds(const uint8_t *sheet, size_t sheet_length, uint8_t *memory, size_t memory_length,
+                        const uint8_t *input, size_t input_length, uint8_t *output, size_t output_length);
+
+uint32_t careful_scheduled(const uint8_t *sheet, size_t sheet_length, uint8_t *memory, size_t memory_length,
+                           const uint8_t *input, size_t input_length, uint8_t *output, size_t output_length,
+                           const uint8_t *schedule, size_t schedule_length);
+
+static const struct implementation careful = {careful_check, careful_start, careful_rounds, careful_scheduled};
+
+#endif

@@ -1,0 +1,163 @@
+/* The four calls of careful C: the checks of memory, rows and schedule, the rounds and the pass. A round works out only those unknown wires
+ * that read a wire which the round before made known. Rests on reading.c, values.c and storing.c.
+ */
+#include "benchmark/careful/careful.h"
+#include "benchmark/careful/internal.h"
+
+#include <string.h>
+
+/* ---- Memory, rows and schedule ---- */
+
+static uint32_t check_memory(const struct program *program, const uint8_t *memory, size_t memory_length)
+{
+    if (memory_length != (size_t)bytes_of_cell * program->cells)
+        return refusal(12, 0);
+    for (unsigned cell = 0; cell < program->cells; cell++) {
+        const uint8_t *const bytes = memory + bytes_of_cell * cell;
+        const bool is_fby = program->cell_node[cell]->kind == kind_fby;
+        const uint32_t greatest = bytes[0] == 0 ? 0 : program->cell_type[cell] == 0 ? 1 : UINT32_MAX;
+        if (bytes[0] > 1 || (bytes[0] == 0 && !is_fby) || read_number(bytes + 1) > greatest)
+            return refusal(13, cell);
+    }
+    return 0;
+}
+
+/* Takes the numbers out of the row on the way. */
+static uint32_t check_input(const struct program *program, const uint8_t *input, size_t input_length, uint32_t *numbers)
+{
+    if (input_length != (size_t)bytes_of_number * program->inputs)
+        return refusal(14, 0);
+    for (unsigned index = 0; index < program->inputs; index++) {
+        numbers[index] = read_number(input + bytes_of_number * index);
+        if (numbers[index] > 1 && program->types[type_input + index] == 1)
+            return refusal(15, index);
+    }
+    return 0;
+}
+
+static uint32_t check_schedule(const struct program *program, const uint8_t *schedule, size_t schedule_length)
+{
+    if (schedule_length != program->wires)
+        return refusal(17, 0);
+    uint64_t earlier = 0;
+    unsigned out_of_order = most_wires;
+    for (unsigned position = 0; position < program->wires; position++) {
+        const unsigned wire = schedule[position];
+        if (wire >= program->wires || (earlier >> wire & 1) != 0)
+            return refusal(18, position);
+        if ((program->wire_reads[wire] & ~earlier) != 0 && out_of_order == most_wires)
+            out_of_order = position;
+        earlier |= UINT64_C(1) << wire;
+    }
+    return out_of_order != most_wires ? refusal(19, out_of_order) : 0;
+}
+
+/* ---- The instants ---- */
+
+/* Checks 1 to 16, and what the instant has at hand. */
+static uint32_t prepare(struct program *program, struct instant *instant, const uint8_t *sheet, size_t sheet_length, uint8_t *memory,
+                        size_t memory_length, const uint8_t *input, size_t input_length, size_t output_length)
+{
+    uint32_t refused = read_program(program, sheet, sheet_length);
+    if (refused == 0)
+        refused = check_memory(program, memory, memory_length);
+    if (refused == 0)
+        refused = check_input(program, input, input_length, instant->inputs);
+    if (refused == 0 && output_length != (size_t)bytes_of_number * program->outputs)
+        refused = refusal(16, 0);
+    if (refused == 0)
+        link_nodes(program);
+    instant->program = program;
+    instant->memory = memory;
+    instant->known = 0;
+    return refused;
+}
+
+/* Writes next memory and output row; every wire is known. */
+static void finish(const struct instant *instant, uint8_t *output)
+{
+    const struct program *const program = instant->program;
+    store_wires(instant);
+    for (unsigned index = 0; index < program->outputs; index++)
+        write_number(output + bytes_of_number * index, instant->wires[program->output_wires[index]]);
+}
+
+/* One round. A wire is worked out where it is unknown and reads a wire that the round before made known: else it is what it was. The
+ * wires made known are marked as such by the caller, behind the round. */
+static uint64_t work_out_round(struct instant *instant, uint64_t waiting, uint64_t made_known, bool first_round)
+{
+    const struct program *const program = instant->program;
+    uint64_t grown = 0;
+    for (uint64_t left = waiting; left != 0; left &= left - 1) {
+        const unsigned wire = (unsigned)__builtin_ctzll(left);
+        if (!first_round && (program->wire_reads[wire] & made_known) == 0)
+            continue;
+        const uint64_t value = value_of(instant, program->wire_node[wire], false);
+        if ((value & KNOWN) != 0) {
+            instant->wires[wire] = (uint32_t)value;
+            grown |= UINT64_C(1) << wire;
+        }
+    }
+    return grown;
+}
+
+uint32_t careful_check(const uint8_t *sheet, size_t sheet_length)
+{
+    struct program program;
+    const uint32_t refused = read_program(&program, sheet, sheet_length);
+    return refused != 0 ? refused : program.cells;
+}
+
+uint32_t careful_start(const uint8_t *sheet, size_t sheet_length, uint8_t *memory, size_t memory_length)
+{
+    struct program program;
+    const uint32_t refused = read_program(&program, sheet, sheet_length);
+    if (refused != 0)
+        return refused;
+    if (memory_length != (size_t)bytes_of_cell * program.cells)
+        return refusal(12, 0);
+    start_cells(&program, memory, 0, program.cells);
+    return 0;
+}
+
+uint32_t careful_rounds(const uint8_t *sheet, size_t sheet_length, uint8_t *memory, size_t memory_length,
+                        const uint8_t *input, size_t input_length, uint8_t *output, size_t output_length)
+{
+    struct program program;
+    struct instant instant;
+    const uint32_t refused =
+        prepare(&program, &instant, sheet, sheet_length, memory, memory_length, input, input_length, output_length);
+    if (refused != 0)
+        return refused;
+    uint64_t waiting = UINT64_MAX >> (most_wires - program.wires);
+    uint64_t made_known = 0;
+    uint32_t rounds = 0;
+    memset(instant.wires, 0, sizeof instant.wires);
+    do {
+        made_known = work_out_round(&instant, waiting, made_known, rounds == 0);
+        instant.known |= made_known;
+        waiting &= ~made_known;
+        rounds++;
+    } while (made_known != 0);
+    if (waiting != 0)
+        return refusal(20, (unsigned)__builtin_ctzll(waiting));
+    finish(&instant, output);
+    return rounds;
+}
+
+uint32_t careful_scheduled(const uint8_t *sheet, size_t sheet_length, uint8_t *memory, size_t memory_length,
+                           const uint8_t *input, size_t input_length, uint8_t *output, size_t output_length,
+                           const uint8_t *schedule, size_t schedule_length)
+{
+    struct program program;
+    struct instant instant;
+    uint32_t refused = prepare(&program, &instant, sheet, sheet_length, memory, memory_length, input, input_length, output_length);
+    if (refused == 0)
+        refused = check_schedule(&program, schedule, schedule_length);
+    if (refused != 0)
+        return refused;
+    for (unsigned position = 0; position < program.wires; position++)
+        instant.wires[schedule[position]] = number_of(&instant, program.wire_node[schedule[position]], false);
+    finish(&instant, output);
+    return 0;
+}

@@ -1,0 +1,201 @@
+/* What the files of careful C share: the shapes of the kinds, the nodes of a sheet, and what an instant has at hand. Rests on nothing but
+ * document 01.
+ */
+#ifndef CAREFUL_INTERNAL_H
+#define CAREFUL_INTERNAL_H
+
+#include <stdbool.h>
+#include <stddef.h>
+#include <stdint.h>
+
+enum {
+    longest_sheet = 4096,
+    most_inputs = 16,
+    most_wires = 64,
+    most_outputs = 16,
+    most_cells = 64,
+    deepest_level = 16,
+    bytes_of_number = 4,
+    bytes_of_cell = 5
+};
+
+enum kind {
+    kind_boolean,
+    kind_number,
+    kind_wire,
+    kind_input,
+    kind_not,
+    kind_negate,
+    kind_and,
+    kind_or,
+    kind_add,
+    kind_subtract,
+    kind_less,
+    kind_equal,
+    kind_if,
+    kind_present,
+    kind_reset,
+    kind_boolean_pre,
+    kind_number_pre,
+    kind_fby,
+    kinds
+};
+
+/* How an expression stands: its level in the lowest five bits, whether it is delayed, that is under a pre or on the right of an fby, which
+ * link of its parent is to lead to it, where a first operand needs none; and the type asked of it, above what a node keeps of this. */
+enum {
+    level_bits = 31,
+    delayed_shift = 5,
+    delayed_bit = 1 << delayed_shift,
+    third_shift = 6,
+    third_bit = 1 << third_shift,
+    linked_shift = 7,
+    linked_bit = 1 << linked_shift,
+    number_shift = 8,
+    number_bit = 1 << number_shift
+};
+
+/* The types that an expression may have, one bit for each, stand in a table that begins with these; inputs and wires have the entries
+ * behind, in order. A Boolean constant has two entries because its body is taken for a name. */
+enum {
+    type_boolean = 0,
+    type_number = 2,
+    type_either = 3,
+    type_input = 4,
+    type_wire = type_input + most_inputs,
+    types = type_wire + most_wires
+};
+
+/* What is fixed of a kind. Of each operand, the last one first, there are the bits that are fixed and those that it takes over. */
+struct shape {
+    uint8_t bytes; /* kind byte and body */
+    uint8_t operands;
+    uint8_t owns_cell;
+    uint8_t type;
+    uint8_t name_mask; /* of a body of one byte */
+    uint16_t fixed[3];
+    uint16_t taken[3];
+    uint32_t body_mask;
+};
+
+/* An expression. Its first operand is the node behind it. */
+struct node {
+    uint8_t kind;
+    uint8_t standing;
+    uint8_t first_cell; /* its cells, operands and all: from this one */
+    uint8_t end_cell;   /* to before this one */
+    union {
+        uint32_t number;  /* of a leaf or a pre: the constant, or the wire or input that it names */
+        uint16_t link[2]; /* of others: where the second operand stands and where the third, counted from here */
+    } is;
+};
+
+/* What the reading of a sheet finds out. The node 0 is no expression: it takes the links that nobody needs. */
+struct program {
+    size_t length;
+    size_t place;
+    const uint8_t *output_wires;
+    unsigned inputs;
+    unsigned wires;
+    unsigned outputs;
+    unsigned cells;
+    struct node *end; /* of the nodes read so far */
+    uint8_t types[types];
+    uint8_t name_limit[kinds]; /* what a body of one byte stays below */
+    struct node *wire_node[most_wires + 1];
+    uint64_t wire_reads[most_wires]; /* within the instant, one bit for each wire */
+    struct node *cell_node[most_cells + 1];
+    uint8_t cell_type[most_cells + 1];
+    uint8_t sheet[longest_sheet + 8]; /* a copy, and bytes that are no kinds: so a body may be read before it is seen to be cut */
+    struct node node[1 + longest_sheet];
+};
+
+/* What an instant has at hand. A wire's number counts only where the wire is known. */
+struct instant {
+    const struct program *program;
+    uint8_t *memory;
+    uint64_t known;
+    uint32_t wires[most_wires];
+    uint32_t inputs[most_inputs];
+};
+
+static inline uint32_t refusal(uint32_t number, size_t place)
+{
+    return number * 65536u + (uint32_t)place;
+}
+
+static inline uint32_t read_number(const uint8_t *bytes)
+{
+    return (uint32_t)bytes[0] | (uint32_t)bytes[1] << 8 | (uint32_t)bytes[2] << 16 | (uint32_t)bytes[3] << 24;
+}
+
+static inline void write_number(uint8_t *bytes, uint32_t number)
+{
+    bytes[0] = (uint8_t)(number & 255u);
+    bytes[1] = (uint8_t)(number >> 8 & 255u);
+    bytes[2] = (uint8_t)(number >> 16 & 255u);
+    bytes[3] = (uint8_t)(number >> 24);
+}
+
+/* ---- reading.c ---- */
+
+/* Reads a sheet into nodes; answers a refusal 1 to 11, or 0. */
+uint32_t read_program(struct program *program, const uint8_t *sheet, size_t length);
+
+/* Links the nodes to their operands, tells each of them its cells and each wire its reads. */
+void link_nodes(struct program *program);
+
+/* ---- values.c ---- */
+
+/* The number of an expression whose reads are all known: then nothing is unknown, and an arm that is not chosen need not be worked out.
+ * There is a function for each kind. */
+typedef uint32_t number_function(const struct instant *instant, const struct node *node, bool fresh);
+
+/* A value that may be unknown: a known one has this bit above its number, and what stands below an unknown one's is nothing. */
+#define KNOWN (UINT64_C(1) << 32)
+
+typedef uint64_t value_function(const struct instant *instant, const struct node *node, bool fresh);
+
+/* By the kind; a wire has none, see below. */
+extern number_function *const number_functions[kinds];
+extern value_function *const value_functions[kinds];
+
+/* A wire is what is met most: it takes no call. */
+static inline uint32_t number_of(const struct instant *instant, const struct node *node, bool fresh)
+{
+    if (node->kind == kind_wire)
+        return instant->wires[node->is.number];
+    return number_functions[node->kind](instant, node, fresh);
+}
+
+static inline uint64_t value_of(const struct instant *instant, const struct node *node, bool fresh)
+{
+    if (node->kind == kind_wire)
+        return (instant->known >> node->is.number & 1) << 32 | instant->wires[node->is.number];
+    return value_functions[node->kind](instant, node, fresh);
+}
+
+static inline bool is_known(uint64_t value)
+{
+    return (value & KNOWN) != 0;
+}
+
+static inline const struct node *second_of(const struct node *node)
+{
+    return node + node->is.link[0];
+}
+
+static inline const struct node *third_of(const struct node *node)
+{
+    return node + node->is.link[1];
+}
+
+/* ---- storing.c ---- */
+
+/* Starts the cells from the first one to before the end. */
+void start_cells(const struct program *program, uint8_t *memory, unsigned first, unsigned end);
+
+/* Stores the cells of all wires, whose numbers, all finished, are the instant's. */
+void store_wires(const struct instant *instant);
+
+#endif

@@ -1,0 +1,203 @@
+/* The reading of careful C: the sheet is read once, by a table of kinds and without recursion, into an array of nodes; for an instant the
+ * nodes are then linked. Rests on nothing but the table, which stands here.
+ */
+#include "benchmark/careful/internal.h"
+
+#include <string.h>
+
+#define SECOND linked_bit
+#define THIRD (linked_bit | third_bit)
+#define NUMBER number_bit
+#define DELAYED delayed_bit
+#define PLACE (level_bits | delayed_bit)
+#define PLACE_AND_TYPE (PLACE | number_bit)
+
+static const struct shape shapes[kinds] = {
+    [kind_boolean] = {2, 0, 0, type_boolean, 255, {0}, {0}, 255},
+    [kind_number] = {5, 0, 0, type_number, 0, {0}, {0}, UINT32_MAX},
+    [kind_wire] = {2, 0, 0, type_wire, 255, {0}, {0}, 255},
+    [kind_input] = {2, 0, 0, type_input, 255, {0}, {0}, 255},
+    [kind_not] = {1, 1, 0, type_boolean, 0, {0}, {PLACE}, 0},
+    [kind_negate] = {1, 1, 0, type_number, 0, {NUMBER}, {PLACE}, 0},
+    [kind_and] = {1, 2, 0, type_boolean, 0, {SECOND, 0}, {PLACE, PLACE}, 0},
+    [kind_or] = {1, 2, 0, type_boolean, 0, {SECOND, 0}, {PLACE, PLACE}, 0},
+    [kind_add] = {1, 2, 0, type_number, 0, {SECOND | NUMBER, NUMBER}, {PLACE, PLACE}, 0},
+    [kind_subtract] = {1, 2, 0, type_number, 0, {SECOND | NUMBER, NUMBER}, {PLACE, PLACE}, 0},
+    [kind_less] = {1, 2, 0, type_boolean, 0, {SECOND | NUMBER, NUMBER}, {PLACE, PLACE}, 0},
+    [kind_equal] = {1, 2, 0, type_boolean, 0, {SECOND | NUMBER, NUMBER}, {PLACE, PLACE}, 0},
+    [kind_if] = {1, 3, 0, type_either, 0, {THIRD, SECOND, 0}, {PLACE_AND_TYPE, PLACE_AND_TYPE, PLACE}, 0},
+    [kind_present] = {1, 3, 0, type_either, 0, {THIRD, SECOND, 0}, {PLACE_AND_TYPE, PLACE_AND_TYPE, PLACE}, 0},
+    [kind_reset] = {1, 2, 0, type_either, 0, {SECOND, 0}, {PLACE_AND_TYPE, PLACE}, 0},
+    [kind_boolean_pre] = {2, 1, 1, type_boolean, 255, {DELAYED}, {PLACE}, 255},
+    [kind_number_pre] = {5, 1, 1, type_number, 0, {DELAYED | NUMBER}, {PLACE}, UINT32_MAX},
+    [kind_fby] = {1, 2, 1, type_either, 0, {SECOND | DELAYED, 0}, {PLACE_AND_TYPE, PLACE_AND_TYPE}, 0},
+};
+
+/* ---- The header ---- */
+
+static uint32_t read_count(struct program *program, unsigned least, unsigned most, unsigned *count)
+{
+    if (program->place >= program->length)
+        return refusal(2, program->length);
+    *count = program->sheet[program->place];
+    if (*count < least || *count > most)
+        return refusal(3, program->place);
+    program->place++;
+    return 0;
+}
+
+static uint32_t read_types(struct program *program, unsigned count, uint8_t *types)
+{
+    for (unsigned index = 0; index < count; index++, program->place++) {
+        const unsigned type = program->sheet[program->place];
+        if (type > 1)
+            return program->place < program->length ? refusal(4, program->place) : refusal(2, program->length);
+        types[index] = (uint8_t)(1u << type);
+    }
+    return 0;
+}
+
+static uint32_t read_outputs(struct program *program)
+{
+    unsigned lowest_allowed = 0;
+    program->output_wires = program->sheet + program->place;
+    for (unsigned index = 0; index < program->outputs; index++, program->place++) {
+        if (program->place >= program->length)
+            return refusal(2, program->length);
+        const unsigned wire = program->sheet[program->place];
+        if (wire >= program->wires || wire < lowest_allowed)
+            return refusal(5, program->place);
+        lowest_allowed = wire + 1;
+    }
+    return 0;
+}
+
+static uint32_t read_header(struct program *program)
+{
+    uint32_t refused = read_count(program, 0, most_inputs, &program->inputs);
+    if (refused == 0)
+        refused = read_types(program, program->inputs, program->types + type_input);
+    if (refused == 0)
+        refused = read_count(program, 1, most_wires, &program->wires);
+    if (refused == 0)
+        refused = read_types(program, program->wires, program->types + type_wire);
+    if (refused == 0)
+        refused = read_count(program, 1, most_outputs, &program->outputs);
+    if (refused == 0)
+        refused = read_outputs(program);
+    return refused;
+}
+
+/* ---- The expressions ---- */
+
+/* Notes an expression as a node; and as the owner of the next cell, which is written over where it owns none. */
+static inline void note_node(struct program *program, struct node *node, unsigned kind, unsigned standing, unsigned cells,
+                             uint32_t number)
+{
+    node->kind = (uint8_t)kind;
+    node->standing = (uint8_t)standing;
+    node->first_cell = node->end_cell = (uint8_t)cells;
+    node->is.number = number;
+    program->cell_node[cells] = node;
+    program->cell_type[cells] = (uint8_t)(standing >> number_shift);
+}
+
+/* Reads the expression of a wire: the operands that are still to be read stand on a stack, the next one on top. */
+static uint32_t read_wire(struct program *program, unsigned asked_of_wire)
+{
+    uint16_t stack[2 * deepest_level + 4];
+    uint16_t *top = stack;
+    size_t place = program->place;
+    unsigned cells = program->cells;
+    struct node *node = program->end;
+    *top++ = (uint16_t)(1 + (asked_of_wire << number_shift));
+    while (top != stack) {
+        const unsigned standing = *--top;
+        const unsigned asked = standing >> number_shift;
+        const unsigned kind = program->sheet[place];
+        if (kind >= kinds)
+            return place < program->length ? refusal(6, place) : refusal(2, program->length);
+        if ((standing & level_bits) > deepest_level)
+            return refusal(8, place);
+        const struct shape *const shape = &shapes[kind];
+        const uint32_t body = read_number(program->sheet + place + 1);
+        const unsigned name = body & shape->name_mask;
+        note_node(program, node++, kind, standing, cells, body & shape->body_mask);
+        cells += shape->owns_cell;
+        if (cells > most_cells)
+            return refusal(10, place);
+        if (place + shape->bytes > program->length)
+            return refusal(2, program->length);
+        if (name >= program->name_limit[kind])
+            return refusal(7, place);
+        if ((program->types[shape->type + name] >> asked & 1) == 0)
+            return refusal(9, place);
+        place += shape->bytes;
+        for (unsigned operand = 0; operand < 3; operand++)
+            top[operand] = (uint16_t)((shape->fixed[operand] | (standing & shape->taken[operand])) + 1);
+        top += shape->operands;
+    }
+    program->place = place;
+    program->cells = cells;
+    program->end = node;
+    return 0;
+}
+
+static uint32_t read_expressions(struct program *program)
+{
+    program->cells = 0;
+    program->end = program->node + 1;
+    memset(program->name_limit, 2, sizeof program->name_limit);
+    program->name_limit[kind_wire] = (uint8_t)program->wires;
+    program->name_limit[kind_input] = (uint8_t)program->inputs;
+    for (unsigned wire = 0; wire < program->wires; wire++) {
+        program->wire_node[wire] = program->end;
+        const uint32_t refused = read_wire(program, program->types[type_wire + wire] >> 1);
+        if (refused != 0)
+            return refused;
+    }
+    program->wire_node[program->wires] = program->end;
+    return program->place < program->length ? refusal(11, program->place) : 0;
+}
+
+uint32_t read_program(struct program *program, const uint8_t *sheet, size_t length)
+{
+    static const uint8_t types_of_kinds[type_input] = {1, 1, 2, 3};
+    if (length == 0 || length > longest_sheet)
+        return refusal(1, 0);
+    memcpy(program->sheet, sheet, length);
+    memset(program->sheet + length, 255, 8);
+    memcpy(program->types, types_of_kinds, sizeof types_of_kinds);
+    program->length = length;
+    program->place = 0;
+    const uint32_t refused = read_header(program);
+    return refused != 0 ? refused : read_expressions(program);
+}
+
+/* ---- The nodes linked ---- */
+
+/* Links the nodes of a wire, tells each of them its cells, and answers the wires that are read within the instant. The path leads from
+ * the wire down to the node at hand. */
+static uint64_t link_wire(struct node **path, struct node *node, const struct node *end)
+{
+    uint64_t reads = 0;
+    for (; node != end; node++) {
+        const unsigned standing = node->standing;
+        const unsigned level = standing & level_bits;
+        struct node *const parent = path[(level - 1) & (0u - (standing >> linked_shift))];
+        parent->is.link[standing >> third_shift & 1] = (uint16_t)(node - parent);
+        path[level] = node;
+        const unsigned reads_wire = (node->kind == kind_wire) & ~standing >> delayed_shift;
+        reads |= (uint64_t)reads_wire << node->is.number % most_wires;
+        for (unsigned above = node->kind >= kind_boolean_pre ? level : 0; above != 0; above--)
+            path[above]->end_cell = (uint8_t)(node->first_cell + 1);
+    }
+    return reads;
+}
+
+void link_nodes(struct program *program)
+{
+    struct node *path[deepest_level + 1] = {program->node};
+    for (unsigned wire = 0; wire < program->wires; wire++)
+        program->wire_reads[wire] = link_wire(path, program->wire_node[wire], program->wire_node[wire + 1]);
+}

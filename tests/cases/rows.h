@@ -1,0 +1,58 @@
+/* A hand-written case as a row of bytes and expected numbers, a table of them, and the words in which rows are written. Rests on the
+ * table of calls.
+ */
+#ifndef CASES_ROWS_H
+#define CASES_ROWS_H
+
+#include "common/calls.h"
+
+struct bytes {
+    const uint8_t *start;
+    size_t length;
+};
+
+/* Either refused at a place, or accepted with an answer, and then with these bytes afterwards. */
+struct row {
+    const char *name;
+    enum call call;
+    struct bytes sheet;
+    struct bytes memory;
+    struct bytes input;
+    size_t output_length;
+    struct bytes schedule;
+    uint32_t refused;
+    uint32_t place;
+    uint32_t answer;
+    struct bytes memory_after;
+    struct bytes output_after;
+};
+
+struct table {
+    const struct row *rows;
+    size_t count;
+};
+
+#define TABLE(rows) {rows, sizeof(rows) / sizeof(rows)[0]}
+
+/* 2 to the 16th: a length above it by what is right would pass if only its lower sixteen bits were looked at. */
+enum { sixteen_bits = 65536 };
+
+#define BYTES(...) {(const uint8_t[]){__VA_ARGS__}, sizeof((const uint8_t[]){__VA_ARGS__})}
+
+/* Four bytes of a number from 0 to 255 or from -255 to -1, and five bytes of a cell. */
+#define NUMBER(low) low, 0, 0, 0
+#define MINUS(low) 256 - (low), 255, 255, 255
+#define LEAST_NUMBER 0, 0, 0, 128
+#define GREATEST_NUMBER 255, 255, 255, 127
+#define CELL(mark, low) mark, low, 0, 0, 0
+
+#define TWICE(...) __VA_ARGS__, __VA_ARGS__
+#define TIMES_4(...) TWICE(TWICE(__VA_ARGS__))
+#define TIMES_8(...) TWICE(TIMES_4(__VA_ARGS__))
+#define TIMES_15(...) TIMES_8(__VA_ARGS__), TIMES_4(__VA_ARGS__), TWICE(__VA_ARGS__), __VA_ARGS__
+#define TIMES_16(...) TWICE(TIMES_8(__VA_ARGS__))
+#define TIMES_32(...) TWICE(TIMES_16(__VA_ARGS__))
+#define TIMES_64(...) TWICE(TIMES_32(__VA_ARGS__))
+#define TIMES_63(...) TIMES_32(__VA_ARGS__), TIMES_16(__VA_ARGS__), TIMES_15(__VA_ARGS__)
+
+#endif

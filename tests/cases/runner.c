@@ -1,0 +1,105 @@
+/* Makes the call of each row with guarded buffers and compares the answer and the bytes. Rests on the library. */
+#include "cases/runner.h"
+
+#include "common/library.h"
+
+#include <stdbool.h>
+#include <stdio.h>
+#include <string.h>
+
+enum { canary_bytes = 16, canary = 219, rubbish = 170, largest_buffer = sixteen_bits + 64 };
+
+struct guarded {
+    uint8_t bytes[canary_bytes + largest_buffer + canary_bytes];
+    size_t length;
+};
+
+/* Where there are no bytes to copy, the content is rubbish. */
+static uint8_t *guard(struct guarded *guarded, struct bytes given)
+{
+    uint8_t *const content = guarded->bytes + canary_bytes;
+    guarded->length = given.length;
+    memset(guarded->bytes, canary, canary_bytes);
+    memset(content, rubbish, given.length);
+    if (given.start != NULL)
+        memcpy(content, given.start, given.length);
+    memset(content + given.length, canary, canary_bytes);
+    return content;
+}
+
+static bool holds(const struct guarded *guarded, const uint8_t *bytes)
+{
+    const uint8_t *const content = guarded->bytes + canary_bytes;
+    bool same = true;
+    for (size_t index = 0; index < guarded->length; index++)
+        same = same && content[index] == (bytes != NULL ? bytes[index] : rubbish);
+    for (size_t index = 0; index < canary_bytes; index++)
+        same = same && guarded->bytes[index] == canary && content[guarded->length + index] == canary;
+    return same;
+}
+
+/* What a row gives to a call; the output row is rubbish. */
+static struct bytes given_by(const struct row *row, enum role role)
+{
+    const struct bytes given[roles] = {
+        [role_sheet] = row->sheet,
+        [role_memory] = row->memory,
+        [role_input] = row->input,
+        [role_output] = {NULL, row->output_length},
+        [role_schedule] = row->schedule,
+    };
+    return given[role];
+}
+
+/* What a row expects afterwards. */
+static const uint8_t *expected_by(const struct row *row, enum call call, enum role role)
+{
+    if (row->refused != 0 || (rules_of[call].writes >> role & 1) == 0)
+        return given_by(row, role).start;
+    return role == role_memory ? row->memory_after.start : row->output_after.start;
+}
+
+static bool all_hold(const struct row *row, enum call call, const struct guarded *buffers)
+{
+    bool hold = true;
+    for (unsigned role = 0; role < roles; role++)
+        hold = hold && holds(&buffers[role], expected_by(row, call, role));
+    return hold;
+}
+
+static bool passes(const struct row *row, enum call call)
+{
+    static struct guarded buffers[roles];
+    const uint32_t expected = row->refused != 0 ? row->refused * first_refusal + row->place : row->answer;
+    struct arguments arguments;
+    for (unsigned role = 0; role < roles; role++) {
+        arguments.of[role].bytes = guard(&buffers[role], given_by(row, role));
+        arguments.of[role].length = buffers[role].length;
+    }
+    const uint32_t answer = run(&library, call, &arguments);
+    if (answer != expected) {
+        printf("failed: %s (%s): answer %u, expected %u\n", row->name, rules_of[call].name, (unsigned)answer, (unsigned)expected);
+        return false;
+    }
+    if (!all_hold(row, call, buffers)) {
+        printf("failed: %s (%s): other bytes than expected\n", row->name, rules_of[call].name);
+        return false;
+    }
+    return true;
+}
+
+void run_table(const struct table *table, struct tally *tally)
+{
+    for (size_t index = 0; index < table->count; index++) {
+        const struct row *const row = &table->rows[index];
+        /* A sheet that the check refuses is refused alike by the other three. */
+        const bool by_all = row->call == call_check && row->refused != 0;
+        const unsigned last = by_all ? call_scheduled : row->call;
+        for (unsigned call = row->call; call <= last; call++) {
+            if (passes(row, call))
+                tally->passed++;
+            else
+                tally->failed++;
+        }
+    }
+}

@@ -1,0 +1,22 @@
+/* The library under test; with -DSELF_TEST the evaluator stands in for it, so that the tests can try themselves before there is a
+ * library. Rests on include/nuthatchbed.h and, with -DSELF_TEST, on the evaluator.
+ *
+ * tests/run builds the programs with the library. To try itself, a program is built with -DSELF_TEST added and the C files of
+ * tests/evaluator in place of the archive. Either may also be built with -fsanitize=address,undefined.
+ */
+#ifndef LIBRARY_H
+#define LIBRARY_H
+
+#ifdef SELF_TEST
+#define nuthatchbed_check evaluator_check
+#define nuthatchbed_start evaluator_start
+#define nuthatchbed_rounds evaluator_rounds
+#define nuthatchbed_scheduled evaluator_scheduled
+#endif
+
+#include "common/calls.h"
+#include "nuthatchbed.h"
+
+static const struct implementation library = {nuthatchbed_check, nuthatchbed_start, nuthatchbed_rounds, nuthatchbed_scheduled};
+
+#endif

@@ -1,0 +1,40 @@
+/* What a case of the comparison works with, and the steps that a case is made of, each in a file of its own. Rests on the harness and
+ * the generator.
+ */
+#ifndef COMPARISON_CASE_H
+#define COMPARISON_CASE_H
+
+#include "comparison/harness.h"
+#include "generator/sheets.h"
+
+/* A sheet with what is known of it. */
+struct subject {
+    struct generator generator;
+    bool as_generated;     /* undamaged and within the limits: the generator's knowledge holds */
+    bool without_schedule; /* as generated, and reading in a circle */
+    bool passed_check;     /* the check, and the rest below is set */
+    unsigned inputs;
+    unsigned wires;
+    unsigned outputs;
+    unsigned cells;
+    const uint8_t *input_types;
+};
+
+/* Kept out of the stack because the buffers are large. The sheet stands in "given"; the other buffers are for each step to fill. */
+struct workspace {
+    struct subject subject;
+    struct buffers given;
+    struct buffers by_rounds;
+    struct buffers by_schedule;
+};
+
+/* A step of a case, made behind the check of its sheet; it does nothing where the sheet is not one for it. */
+typedef void step(struct harness *harness, struct workspace *workspace);
+
+/* refused_sheets.c: a refused sheet is refused by all calls, whatever the other buffers are. */
+step compare_refused_sheet;
+
+/* instants.c: the start, and instants both ways from memory to memory, with demand 3 between them. */
+step compare_instants;
+
+#endif

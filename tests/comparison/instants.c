@@ -1,0 +1,100 @@
+/* The step of a case that goes from instant to instant: the start, then rounds and schedule from the same memory, row and list, which
+ * must agree as demand 3 says. Rests on the harness and on the generator's rows.
+ */
+#include "comparison/case.h"
+
+#include "generator/rows.h"
+#include "generator/spoiling.h"
+
+static uint32_t compare_rounds(struct harness *harness, struct workspace *workspace)
+{
+    const struct subject *const subject = &workspace->subject;
+    const struct buffers *const given = &workspace->given;
+    unsigned long *const count = harness->statistics.count;
+    const uint32_t rounds = compare_call(harness, call_rounds, given, &workspace->by_rounds);
+    if (rounds >= first_refusal)
+        return rounds;
+    if (rounds == 0 || rounds > subject->wires + 1)
+        report_mismatch(harness, call_rounds, given, "more rounds than wires plus one, or none");
+    if (rounds > count[counter_most_rounds])
+        count[counter_most_rounds] = rounds;
+    count[counter_instants_without_schedule] += subject->without_schedule;
+    return rounds;
+}
+
+/* Both instants from the same memory and input row. Answers whether the rounds are accepted. */
+static bool compare_instant(struct harness *harness, struct workspace *workspace, bool list_passes)
+{
+    struct buffers *const given = &workspace->given;
+    const struct buffers *const by_rounds = &workspace->by_rounds;
+    struct buffers *const by_schedule = &workspace->by_schedule;
+    const bool accepted = compare_rounds(harness, workspace) < first_refusal;
+    fill_with_rubbish(&harness->random, &given->of[role_output], given->of[role_output].length);
+    const uint32_t scheduled = compare_call(harness, call_scheduled, given, by_schedule);
+    if (list_passes && scheduled != 0)
+        report_mismatch(harness, call_scheduled, given, "a list that passes is refused");
+    if (scheduled != 0)
+        return accepted;
+    if (!accepted)
+        report_mismatch(harness, call_scheduled, given, "demand 3: accepted only by schedule");
+    if (!same_bytes(&by_rounds->of[role_memory], &by_schedule->of[role_memory]) ||
+        !same_bytes(&by_rounds->of[role_output], &by_schedule->of[role_output]))
+        report_mismatch(harness, call_scheduled, given, "demand 3: rounds and schedule differ");
+    harness->statistics.count[counter_instants_both_ways]++;
+    return true;
+}
+
+/* Fills "given", whose memory is there already, for one instant. Answers whether, by the
+ * generator's knowledge, memory, rows and list pass. */
+static bool prepare_instant(struct harness *harness, const struct subject *subject, struct buffers *given)
+{
+    struct random *const random = &harness->random;
+    const struct generator *const generator = &subject->generator;
+    bool list_passes = false;
+    if (subject->as_generated && percent(random, 20))
+        fill_memory(random, generator, &given->of[role_memory]);
+    fill_input(random, subject->input_types, subject->inputs, &given->of[role_input]);
+    fill_with_rubbish(random, &given->of[role_output], (size_t)bytes_of_number * subject->outputs);
+    if (subject->as_generated && percent(random, 90))
+        list_passes = fill_schedule(random, generator, &given->of[role_schedule]);
+    else
+        fill_with_permutation(random, subject->wires, &given->of[role_schedule]);
+    if (percent(random, 25)) {
+        spoil_rows(random, given);
+        list_passes = false;
+    }
+    return list_passes;
+}
+
+/* Leaves the starting memory in "given". */
+static void compare_start(struct harness *harness, struct workspace *workspace)
+{
+    struct random *const random = &harness->random;
+    struct buffers *const given = &workspace->given;
+    const size_t length = (size_t)bytes_of_cell * workspace->subject.cells;
+    fill_with_rubbish(random, &given->of[role_memory], length);
+    if (percent(random, 10)) {
+        spoil_length(random, &given->of[role_memory]);
+        (void)compare_call(harness, call_start, given, given);
+        fill_with_rubbish(random, &given->of[role_memory], length);
+    }
+    if (compare_call(harness, call_start, given, given) != 0)
+        report_mismatch(harness, call_start, given, "the right length of memory is refused");
+}
+
+void compare_instants(struct harness *harness, struct workspace *workspace)
+{
+    const struct subject *const subject = &workspace->subject;
+    struct buffers *const given = &workspace->given;
+    struct buffer memory;
+    if (!subject->passed_check)
+        return;
+    compare_start(harness, workspace);
+    copy_buffer(&memory, &given->of[role_memory]);
+    for (unsigned left = between(&harness->random, 1, 5); left != 0; left--) {
+        copy_buffer(&given->of[role_memory], &memory);
+        const bool list_passes = prepare_instant(harness, subject, given);
+        if (compare_instant(harness, workspace, list_passes))
+            copy_buffer(&memory, &workspace->by_rounds.of[role_memory]);
+    }
+}

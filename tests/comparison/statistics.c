@@ -1,0 +1,55 @@
+/* Prints the statistics of a comparison and says which refusals were never met. Rests on the table of calls for the refusals that a
+ * call uses.
+ */
+#include "comparison/statistics.h"
+
+#include <stdio.h>
+
+static const char *const counter_texts[counters] = {
+    [counter_sheets_by_construction] = "sheets correct by construction",
+    [counter_instants_both_ways] = "instants the same both ways",
+    [counter_instants_without_schedule] = "instants accepted in rounds that have no schedule",
+    [counter_most_rounds] = "most rounds",
+};
+
+static void print_answers(const struct statistics *statistics)
+{
+    printf("%-10s", "answer");
+    for (unsigned call = 0; call < calls; call++)
+        printf(" %10s", rules_of[call].name);
+    printf("\n");
+    for (unsigned number = 0; number <= refusals; number++) {
+        if (number == 0)
+            printf("%-10s", "accepted");
+        else
+            printf("refusal %-2u", number);
+        for (unsigned call = 0; call < calls; call++)
+            printf(" %10lu", statistics->met[call][number]);
+        printf("\n");
+    }
+}
+
+static bool all_refusals_met(const struct statistics *statistics, enum call call)
+{
+    bool all_met = true;
+    for (unsigned number = 1; number <= refusals; number++) {
+        if ((rules_of[call].refusals >> number & 1) != 0 && statistics->met[call][number] == 0) {
+            printf("refusal %u was never met by %s\n", number, rules_of[call].name);
+            all_met = false;
+        }
+    }
+    return all_met;
+}
+
+bool print_statistics(const struct statistics *statistics)
+{
+    bool all_met = true;
+    print_answers(statistics);
+    for (unsigned call = 0; call < calls; call++)
+        all_met = all_refusals_met(statistics, call) && all_met;
+    printf("instants accepted: %lu in rounds, %lu along a schedule\n", statistics->met[call_rounds][0],
+           statistics->met[call_scheduled][0]);
+    for (unsigned counter = 0; counter < counters; counter++)
+        printf("%s: %lu\n", counter_texts[counter], statistics->count[counter]);
+    return all_met;
+}

@@ -1,0 +1,25 @@
+/* How often each call gave each answer, and other counts of what was tried. Rests on the table of calls. */
+#ifndef COMPARISON_STATISTICS_H
+#define COMPARISON_STATISTICS_H
+
+#include "common/calls.h"
+
+#include <stdbool.h>
+
+enum counter {
+    counter_sheets_by_construction,
+    counter_instants_both_ways,
+    counter_instants_without_schedule,
+    counter_most_rounds,
+    counters
+};
+
+struct statistics {
+    unsigned long met[calls][refusals + 1]; /* at 0: accepted */
+    unsigned long count[counters];
+};
+
+/* Answers whether every refusal was met by every call that uses it. */
+bool print_statistics(const struct statistics *statistics);
+
+#endif

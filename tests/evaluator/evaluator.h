@@ -1,0 +1,28 @@
+/* The calls of the meter sheet library as the evaluator has them: written separately in plain C from the rules of document 01, to be
+ * compared with the proved library and to be one yardstick of its benchmark. Rests on nothing but the C language.
+ *
+ * Each call answers one number: a refusal is its number times 65536 plus its place. After a refusal every buffer holds what it held
+ * before. The buffers of one call must not overlap.
+ */
+#ifndef EVALUATOR_H
+#define EVALUATOR_H
+
+#include <stddef.h>
+#include <stdint.h>
+
+/* Refusals 1 to 11. Success answers the count of cells. */
+uint32_t evaluator_check(const uint8_t *sheet, size_t sheet_length);
+
+/* Refusals 1 to 12. Success answers 0 and fills the memory. */
+uint32_t evaluator_start(const uint8_t *sheet, size_t sheet_length, uint8_t *memory, size_t memory_length);
+
+/* Refusals 1 to 16 and 20. Success answers the rounds. */
+uint32_t evaluator_rounds(const uint8_t *sheet, size_t sheet_length, uint8_t *memory, size_t memory_length,
+                          const uint8_t *input, size_t input_length, uint8_t *output, size_t output_length);
+
+/* Refusals 1 to 19. Success answers 0. */
+uint32_t evaluator_scheduled(const uint8_t *sheet, size_t sheet_length, uint8_t *memory, size_t memory_length,
+                             const uint8_t *input, size_t input_length, uint8_t *output, size_t output_length,
+                             const uint8_t *schedule, size_t schedule_length);
+
+#endif

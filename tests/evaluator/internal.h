@@ -1,0 +1,151 @@
+/* What the files of the evaluator share: the table of kinds, what one reading of a sheet finds out, and where an instant stands.
+ * Each function stands in the file that its heading names.
+ */
+#ifndef EVALUATOR_INTERNAL_H
+#define EVALUATOR_INTERNAL_H
+
+#include "evaluator/evaluator.h"
+
+#include <stdbool.h>
+
+enum {
+    longest_sheet = 4096,
+    most_inputs = 16,
+    most_wires = 64,
+    most_outputs = 16,
+    most_cells = 64,
+    deepest_level = 16,
+    bytes_of_number = 4,
+    bytes_of_cell = 5
+};
+
+/* The first two are the type bytes of a sheet; the third stands in the table of shapes for
+ * "the type asked of the whole expression". */
+enum type { type_boolean = 0, type_number = 1, type_asked = 2 };
+
+enum kind {
+    kind_boolean = 0,
+    kind_number = 1,
+    kind_wire = 2,
+    kind_input = 3,
+    kind_not = 4,
+    kind_negate = 5,
+    kind_and = 6,
+    kind_or = 7,
+    kind_add = 8,
+    kind_subtract = 9,
+    kind_less = 10,
+    kind_equal = 11,
+    kind_if = 12,
+    kind_present = 13,
+    kind_reset = 14,
+    kind_boolean_pre = 15,
+    kind_number_pre = 16,
+    kind_fby = 17
+};
+
+struct shape {
+    uint8_t body;
+    uint8_t operands;
+    uint8_t type;
+    uint8_t operand_types[3];
+};
+
+/* What one reading of a sheet finds out, so that nothing after the check looks for it again. */
+struct layout {
+    const uint8_t *sheet;
+    size_t length;
+    size_t place; /* the byte to be read next */
+    const uint8_t *input_types;
+    const uint8_t *wire_types;
+    const uint8_t *output_wires;
+    unsigned inputs;
+    unsigned wires;
+    unsigned outputs;
+    unsigned cells;
+    uint16_t wire_place[most_wires];
+    uint8_t wire_first_cell[most_wires];
+    uint64_t wire_reads[most_wires]; /* the wires it reads within the instant, one bit each */
+    uint16_t cell_place[most_cells];
+    uint8_t cell_type[most_cells];
+};
+
+struct value {
+    uint32_t number; /* a Boolean is 0 or 1; an unknown value is 0, so that equal values compare */
+    bool known;
+};
+
+/* Where the working out stands: it runs over the sheet's bytes from expression to operand, and
+ * counts the cells as their owners are met. */
+struct instant {
+    const struct layout *layout;
+    const uint8_t *next; /* the kind byte of the expression to be worked out next */
+    unsigned next_cell;
+    const struct value *wires;
+    const uint8_t *input;
+    uint8_t *memory; /* written by the storing alone */
+};
+
+static inline uint32_t refusal(uint32_t number, size_t place)
+{
+    return number * 65536u + (uint32_t)place;
+}
+
+static inline uint32_t read_number(const uint8_t *bytes)
+{
+    return (uint32_t)bytes[0] | (uint32_t)bytes[1] << 8 | (uint32_t)bytes[2] << 16 | (uint32_t)bytes[3] << 24;
+}
+
+static inline void write_number(uint8_t *bytes, uint32_t number)
+{
+    bytes[0] = (uint8_t)(number & 255u);
+    bytes[1] = (uint8_t)(number >> 8 & 255u);
+    bytes[2] = (uint8_t)(number >> 16 & 255u);
+    bytes[3] = (uint8_t)(number >> 24);
+}
+
+static inline bool owns_cell(unsigned kind)
+{
+    return kind >= kind_boolean_pre;
+}
+
+/* The constant of a pre, given where its kind byte lies. */
+static inline uint32_t starting_constant(const uint8_t *pre)
+{
+    return pre[0] == kind_boolean_pre ? pre[1] : read_number(pre + 1);
+}
+
+/* Moves to the expression of a wire. */
+static inline void move_to_wire(struct instant *instant, unsigned wire)
+{
+    instant->next = instant->layout->sheet + instant->layout->wire_place[wire];
+    instant->next_cell = instant->layout->wire_first_cell[wire];
+}
+
+/* ---- reading.c ---- */
+
+extern const struct shape shapes[];
+
+/* Reads the sheet into the layout; answers a refusal 1 to 11, or 0. */
+uint32_t read_sheet(struct layout *layout, const uint8_t *sheet, size_t sheet_length);
+
+/* ---- values.c ---- */
+
+/* The operations of kinds 4 and 5, and of 6 to 11, on known values. */
+uint32_t result_of_one(unsigned kind, uint32_t operand);
+uint32_t result_of_two(unsigned kind, uint32_t first, uint32_t second);
+
+/* Moves behind the expression that comes next without working it out. */
+void pass_over(struct instant *instant);
+
+/* Works out the expression that comes next and moves behind it. */
+struct value value_of(struct instant *instant, bool fresh);
+
+/* ---- storing.c ---- */
+
+void start_cell(const struct layout *layout, unsigned cell, uint8_t *memory);
+
+/* Stores the cells of all wires, whose finished values, all known, are the instant's. */
+void store_cells(struct instant *instant);
+
+#endif

@@ -1,0 +1,198 @@
+/* Sheets that are correct by construction: each expression is made for the type asked, within levels, cells and bytes of the plan.
+ * Rests on random.c and buffer.c.
+ */
+#include "generator/sheets.h"
+
+static void generate_expression(struct generator *generator, unsigned asked, unsigned level, bool delayed, bool spine);
+
+static bool may_read(struct generator *generator, unsigned wire, bool delayed)
+{
+    if (delayed || generator->plan.reading == reading_wild)
+        return true;
+    if (generator->plan.reading == reading_mixed && percent(generator->random, generator->plan.wild_share))
+        return true;
+    if (generator->falling)
+        return generator->rank[wire] > generator->rank[generator->wire];
+    return generator->rank[wire] < generator->rank[generator->wire];
+}
+
+/* Answers whether a wire of the type asked was found that may be read here. */
+static bool generate_wire(struct generator *generator, unsigned asked, bool delayed)
+{
+    struct random *const random = generator->random;
+    const unsigned rank = generator->rank[generator->wire];
+    for (unsigned attempt = 0; attempt < 6; attempt++) {
+        unsigned wire = below(random, generator->plan.wires);
+        if (generator->plan.chain && !delayed && attempt == 0) {
+            if (generator->falling && rank + 1 < generator->plan.wires)
+                wire = generator->wire_of_rank[rank + 1];
+            else if (!generator->falling && rank > 0)
+                wire = generator->wire_of_rank[rank - 1];
+        }
+        if (generator->wire_types[wire] != asked || !may_read(generator, wire, delayed))
+            continue;
+        append(generator->sheet, 2);
+        append(generator->sheet, wire);
+        if (!delayed)
+            generator->reads[generator->wire] |= UINT64_C(1) << wire;
+        return true;
+    }
+    return false;
+}
+
+static bool generate_input(struct generator *generator, unsigned asked)
+{
+    if (generator->plan.inputs == 0)
+        return false;
+    const unsigned input = below(generator->random, generator->plan.inputs);
+    if (generator->input_types[input] != asked)
+        return false;
+    append(generator->sheet, 3);
+    append(generator->sheet, input);
+    return true;
+}
+
+static void append_constant(struct generator *generator, unsigned type)
+{
+    if (type == 0)
+        append(generator->sheet, below(generator->random, 2));
+    else
+        append_number(generator->sheet, random_number(generator->random));
+}
+
+static void generate_leaf(struct generator *generator, unsigned asked, bool delayed)
+{
+    struct random *const random = generator->random;
+    if (percent(random, generator->plan.wire_share) && generate_wire(generator, asked, delayed))
+        return;
+    if (percent(random, 70) && generate_input(generator, asked))
+        return;
+    append(generator->sheet, asked);
+    append_constant(generator, asked);
+}
+
+static unsigned choose_kind(struct generator *generator, unsigned asked)
+{
+    static const uint8_t boolean_kinds[] = {4, 6, 7, 10, 11, 12, 13, 13, 14, 14};
+    static const uint8_t number_kinds[] = {5, 8, 8, 9, 12, 13, 13, 14, 14};
+    struct random *const random = generator->random;
+    if (generator->cells < generator->plan.cells_wanted && percent(random, generator->plan.cell_share))
+        return below(random, 2) == 0 ? 17 : 15 + asked;
+    if (asked == 0)
+        return boolean_kinds[below(random, sizeof boolean_kinds)];
+    return number_kinds[below(random, sizeof number_kinds)];
+}
+
+static unsigned count_of_operands(unsigned kind)
+{
+    if (kind == 12 || kind == 13)
+        return 3;
+    return kind == 4 || kind == 5 || kind == 15 || kind == 16 ? 1 : 2;
+}
+
+static unsigned type_of_operand(unsigned kind, unsigned operand, unsigned asked)
+{
+    if (kind == 10 || kind == 11)
+        return 1;
+    if (kind >= 12 && kind <= 14 && operand == 0)
+        return 0;
+    return asked;
+}
+
+static void generate_node(struct generator *generator, unsigned kind, unsigned asked,
+                          unsigned level, bool delayed, bool spine)
+{
+    const unsigned operands = count_of_operands(kind);
+    const unsigned spine_operand = spine ? below(generator->random, operands) : operands;
+    append(generator->sheet, kind);
+    if (kind >= 15) {
+        generator->cell_kind[generator->cells] = (uint8_t)kind;
+        generator->cell_type[generator->cells] = (uint8_t)asked;
+        generator->cells++;
+    }
+    if (kind == 15 || kind == 16)
+        append_constant(generator, asked);
+    for (unsigned operand = 0; operand < operands; operand++) {
+        const bool operand_delayed = delayed || kind == 15 || kind == 16 ||
+                                     (kind == 17 && operand == 1);
+        generate_expression(generator, type_of_operand(kind, operand, asked), level + 1,
+                            operand_delayed, operand == spine_operand);
+    }
+}
+
+static void generate_expression(struct generator *generator, unsigned asked, unsigned level,
+                                bool delayed, bool spine)
+{
+    if (level > deepest_level)
+        generator->too_deep = true;
+    const bool full = generator->sheet->length >= generator->wire_end ||
+                      generator->sheet->length >= generator->plan.sheet_bytes;
+    if (level >= generator->plan.deepest ||
+        (!spine && (full || percent(generator->random, generator->plan.leaf_share))))
+        generate_leaf(generator, asked, delayed);
+    else
+        generate_node(generator, choose_kind(generator, asked), asked, level, delayed, spine);
+}
+
+static void generate_wire_expression(struct generator *generator, unsigned wire)
+{
+    const unsigned asked = generator->wire_types[wire];
+    generator->wire = wire;
+    generator->reads[wire] = 0;
+    generator->wire_end = generator->sheet->length + generator->plan.wire_bytes;
+    generator->falling = false;
+    if (generator->plan.reading != reading_two_way) {
+        generate_expression(generator, asked, 1, false, generator->plan.spine);
+        return;
+    }
+    append(generator->sheet, 13);
+    append(generator->sheet, 3);
+    append(generator->sheet, 0);
+    generate_expression(generator, asked, 2, false, generator->plan.spine);
+    generator->falling = true;
+    generate_expression(generator, asked, 2, false, false);
+}
+
+static void generate_header(struct generator *generator)
+{
+    struct random *const random = generator->random;
+    struct buffer *const sheet = generator->sheet;
+    append(sheet, generator->plan.inputs);
+    for (unsigned input = 0; input < generator->plan.inputs; input++) {
+        const bool condition = generator->plan.reading == reading_two_way && input == 0;
+        generator->input_types[input] = condition ? 0 : (uint8_t)below(random, 2);
+        append(sheet, generator->input_types[input]);
+    }
+    append(sheet, generator->plan.wires);
+    for (unsigned wire = 0; wire < generator->plan.wires; wire++) {
+        /* A chain wants wires of one type, or it would break off. */
+        generator->wire_types[wire] = generator->plan.chain ? 1 : (uint8_t)below(random, 2);
+        append(sheet, generator->wire_types[wire]);
+    }
+    append(sheet, generator->plan.outputs);
+    unsigned left = generator->plan.outputs;
+    for (unsigned wire = 0; wire < generator->plan.wires; wire++) {
+        if (below(random, generator->plan.wires - wire) < left) {
+            append(sheet, wire);
+            left--;
+        }
+    }
+}
+
+/* Wires of lower rank are those that a wire may read within the instant where a schedule is to exist. */
+static void choose_ranks(struct generator *generator)
+{
+    shuffle(generator->random, generator->wire_of_rank, generator->plan.wires);
+    for (unsigned rank = 0; rank < generator->plan.wires; rank++)
+        generator->rank[generator->wire_of_rank[rank]] = (uint8_t)rank;
+}
+
+bool generate_sheet(struct generator *generator)
+{
+    choose_ranks(generator);
+    generator->sheet->length = 0;
+    generate_header(generator);
+    for (unsigned wire = 0; wire < generator->plan.wires; wire++)
+        generate_wire_expression(generator, wire);
+    return generator->sheet->length <= longest_sheet && !generator->too_deep && generator->cells <= most_cells;
+}

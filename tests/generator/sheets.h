@@ -1,0 +1,69 @@
+/* Random sheets that are correct by construction: the plan of a sheet, and the generator that writes a sheet by a plan and knows its
+ * cells and its reads. Rests on random.h and buffer.h.
+ */
+#ifndef GENERATOR_SHEETS_H
+#define GENERATOR_SHEETS_H
+
+#include "generator/buffer.h"
+#include "generator/random.h"
+
+enum {
+    most_inputs = 16,
+    most_wires = 64,
+    most_outputs = 16,
+    most_cells = 64,
+    deepest_level = 16,
+    longest_sheet = 4096
+};
+
+/* How the wires may read each other within the instant. */
+enum reading {
+    reading_backward, /* only wires of lower rank: a schedule exists */
+    reading_mixed,    /* mostly so */
+    reading_wild,     /* any wire */
+    reading_two_way   /* one arm by rising rank, the other by falling: cyclic, yet accepted */
+};
+
+/* How a sheet is to be; the shares are in percent. Levels, cells and bytes may be above their limits, and then so is the sheet. */
+struct plan {
+    unsigned inputs; /* at least 1 for reading_two_way */
+    unsigned wires;
+    unsigned outputs;
+    unsigned deepest;
+    unsigned cells_wanted;
+    unsigned cell_share; /* of the expressions with operands, while there are fewer cells than wanted */
+    unsigned leaf_share; /* of the expressions above the deepest level */
+    unsigned wild_share; /* of the readings, for reading_mixed */
+    unsigned wire_share; /* of the leaves */
+    unsigned wire_bytes; /* an expression comes to its end behind so many bytes */
+    size_t sheet_bytes;  /* and every expression does behind so many */
+    bool spine;          /* every wire's expression reaches the deepest level */
+    bool chain;          /* wires like to read the wire of the next lower rank: many rounds */
+    enum reading reading;
+};
+
+/* Set to zero but for its first three before a sheet is generated. */
+struct generator {
+    struct random *random;
+    struct buffer *sheet;
+    struct plan plan;
+    unsigned wire;
+    size_t wire_end; /* where this wire's expression should come to its end */
+    bool falling;
+    bool too_deep;
+    uint8_t input_types[most_inputs];
+    uint8_t wire_types[most_wires];
+    uint8_t rank[most_wires];
+    uint8_t wire_of_rank[most_wires];
+    unsigned cells;
+    uint8_t cell_kind[largest_buffer];
+    uint8_t cell_type[largest_buffer];
+    uint64_t reads[most_wires];
+};
+
+void choose_plan(struct random *random, struct plan *plan);
+
+/* Answers whether the sheet keeps all the rules, so that the check has to accept it. */
+bool generate_sheet(struct generator *generator);
+
+#endif

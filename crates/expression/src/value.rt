@@ -1,6 +1,7 @@
 // The value of an expression over the sheet's bytes, an input row, a memory and the wires known so far. Row and memory stand
 // behind one more reference, so that a call hands on their addresses and copies no slice.
-// Rests on `kernel` for the operations, on `leaf`, and on `sheet` for the table of kinds, cells and the walk past an operand.
+// Rests on `operations` for what a kind does with its operands, on `leaf`, on `sheet` for the table of kinds and the cells, and on `sheet_walk`
+// for the walk past an operand.
 use crate::Valued;
 use crate::leaf;
 use kernel::Value;

@@ -5,14 +5,15 @@ use mathlib.Core.Bool.{Bool, not, _&&_, cond}
 use mathlib.Core.List.{List, [], _∷_, map}
 use native.Mathlib.Omega.{arith}
 use lib.Dec.{eqb, leb}
-use lib.ListN.{length, getD, take, length-map, length-take}
-use lib.Seq.{getD-take}
+use lib.ListN.{length, getD}
 use borrow.Author.Tests.{eq-eqb, ne-eqb}
 use Rattle.numbers.specs.Words.{wordAt}
 use Rattle.sheet.specs.Data.{ValueType, boolean, number, typeOfByte, standsFor}
 use Rattle.sheet.specs.Expressions.{CellForm, fbyCell}
 use Rattle.sheet.specs.Memory.{startsEmpty, typeByte, formByte, validCell, invalidAt}
 use Rattle.sheet.specs.Rows.{wrongAt}
+use Rattle.sheet_check.specs.Map.{formIn}
+use Rattle.given.specs.Answers.{Formed}
 use Rattle.sheet.specs.declared.Cell.{Cell}
 use Rattle.sheet.specs.declared.Cell.the-variants.{NotStarted, Started}
 
@@ -47,21 +48,12 @@ map-at f [] i d e l = absurd (omega arith)
 map-at f (a ∷ rest) zero d e l = refl
 map-at f (a ∷ rest) (suc i) d e l = map-at f rest i d e (omega arith)
 
--- as many forms as cells
-pub forms-counted : (fs : List CellForm) (forms : List ℕ) (cells : ℕ) → cells ≤ length forms → map formByte fs ≡ take cells forms
-    → length fs ≡ cells
-forms-counted fs forms cells room e = omega (arith, length-map fs formByte, ap length e, length-take cells forms)
-
 -- the tests of a cell and of an entry, as the code makes them
-pub cell-test : (fs : List CellForm) (forms memory : List ℕ) (cells k : ℕ) {word : ℕ} {r : Bool} → cells ≤ length forms → k < cells
-    → map formByte fs ≡ take cells forms → word ≡ wordAt memory (5 * k + 1)
-    → ((f : CellForm) → formByte f ≡ getD forms k 0 → r ≡ validCell f (getD memory (5 * k) 0) word) → invalidAt fs memory k ≡ not r
+pub cell-test : (fs : List CellForm) (forms memory : List ℕ) (cells k : ℕ) {word form : ℕ} {r : Bool} → k < cells
+    → Formed fs forms cells → form ≡ formIn (getD forms k 0) → word ≡ wordAt memory (5 * k + 1)
+    → ((f : CellForm) → formByte f ≡ form → r ≡ validCell f (getD memory (5 * k) 0) word) → invalidAt fs memory k ≡ not r
 unfolding invalidAt
-cell-test fs forms memory cells k {word} {r} room l e w h =
-    let inside : k < length fs = omega (arith, forms-counted fs forms cells room e) in
-    let byte : formByte (getD fs k (fbyCell boolean)) ≡ getD forms k 0 =
-    sym (map-at formByte fs k (fbyCell boolean) 0 inside) ∙ ap (λ x. getD x k 0) e ∙ getD-take cells forms k 0 l in
-    rw (h (getD fs k (fbyCell boolean)) byte, w)
+cell-test fs forms memory cells k l e same w h = rw (h (getD fs k (fbyCell boolean)) (e .each k l ∙ sym same), w)
 
 pub entry-test : (types input : List ℕ) (i : ℕ) {word : ℕ} {r : Bool} → i < length types → word ≡ wordAt input (4 * i)
     → r ≡ standsFor (typeOfByte (getD types i 0)) word → wrongAt (map typeOfByte types) input i ≡ not r

@@ -1,28 +1,31 @@
 -- What the checks of a length and then of each part come to, and how those of the buffers make the answer.
-use Prim.Native.Nat.{ℕ, _+_, _*_, _-_, _≤_, _<_}
+use Prim.Native.Nat.{ℕ, zero, suc, _+_, _*_, _-_, _≤_, _<_}
 use mathlib.Core.Path.{_≡_, refl, sym, ap, _∙_}
 use mathlib.Core.Bool.{Bool, true, false, cond}
 use mathlib.Core.List.{List, map}
 use native.Mathlib.Omega.{arith}
 use lib.Dec.{eqb}
-use lib.ListN.{length, take, drop, length-map}
-use lib.Seq.{sets, sets-eq, take-at}
+use lib.ListN.{length, getD, take, drop, length-map}
+use lib.Seq.{getD-take}
 use borrow.Author.Tests.{eq-eqb, ne-eqb, lt-ltb, le-ltb}
-use Rattle.sheet.specs.Data.{typeOfByte}
+use Rattle.sheet.specs.Data.{boolean, typeOfByte}
+use Rattle.sheet.specs.Expressions.{CellForm, fbyCell}
 use Rattle.sheet.specs.Outcomes.{Outcome, refusal, result, followedBy, lowest, unlessLength, unlessAny}
 use Rattle.sheet.specs.Readings.{Reading, refused, got}
 use Rattle.sheet.specs.Sheets.{Sheet, sheetForms, before, readSheet, sheetOf, checkedOf, checkOf}
-use Rattle.sheet.specs.Memory.{memoryOf}
+use Rattle.sheet.specs.Memory.{formByte, memoryOf}
+use Rattle.sheet.specs.Typing.{Pairwise, done, _then_}
 use Rattle.sheet.specs.Rows.{inputsOf}
-use Rattle.sheet.specs.Laws.Headers.{section-good, section-length, sheet-view}
+use Rattle.sheet.specs.Laws.Headers.{SheetRead, section-good, section-length, sheet-view}
 use Rattle.sheet.specs.Laws.Typing.{read-passed, read-counted}
 use Rattle.sheet.specs.declared.Datum.{Datum}
 use Rattle.sheet.specs.declared.Cell.{Cell}
 use Rattle.sheet.specs.declared.Refusal.{Refusal}
 use Rattle.sheet.specs.declared.Refusal.the-variants.{TypeByte, OutputLength}
 use Rattle.sheet.specs.declared.Checked.the-variants.{Refused as CheckRefused, Passed as CheckPassed}
+use Rattle.sheet_check.specs.Map.{CellNoted, formIn}
 use Rattle.kernel.specs.Calls.{givenOf}
-use Rattle.given.specs.Answers.{givenAnswer, testedOf, andTested, buffersTested}
+use Rattle.given.specs.Answers.{givenAnswer, testedOf, andTested, buffersTested, Formed}
 use Rattle.given.specs.declared.Given.{Given as Answer}
 use Rattle.given.specs.declared.Given.the-variants.{Refused as GivenRefused, Passed}
 use Rattle.given.specs.declared.Tested.{Tested}
@@ -43,10 +46,17 @@ module _ {A : Type 0} (unfit wrong : Refusal) (n must bound : ℕ) (test : ℕ �
     pub none-wrong : bound ≤ place → Fine ≡ testedOf whole
     none-wrong l = rw (eq-eqb n must fits, ← found, le-ltb place bound l)
 
--- what is stored from the first place on stands there
-pub stored-first : (vs l : List ℕ) {after : List ℕ} {n : ℕ} → length vs ≡ n → n ≤ length l → after ≡ sets l 0 vs → vs ≡ take n after
-stored-first vs l {after} {n} e room stored =
-    sym (ap (take n) (stored ∙ sets-eq vs l 0 (omega arith)) ∙ take-at vs (drop (0 + length vs) l) n e)
+-- the forms that are noted are those of the cells
+pub noted-forms : {s entries : List ℕ} {fs : List CellForm} {count : ℕ} → length fs ≡ count
+    → Pairwise (CellNoted s) fs (take count entries) → Formed fs entries count
+noted-forms {s} {entries} {fs} {count} sized noted =
+    record { counted = sized; each = λ k l. at noted k (omega arith) ∙ ap formIn (getD-take count entries k 0 l) }
+  where
+    at : {gs : List CellForm} {es : List ℕ} → Pairwise (CellNoted s) gs es → (k : ℕ) → k < length gs
+        → formByte (getD gs k (fbyCell boolean)) ≡ formIn (getD es k 0)
+    at done k l = absurd (omega arith)
+    at (p then ps) zero l = sym (p .form)
+    at (p then ps) (suc k) l = at ps k (omega arith)
 
 -- what a sheet that passes the check with these counts has
 pub record Passes (s : List ℕ) (inputs wires outputs cells : ℕ) : Type 0 where
@@ -61,6 +71,8 @@ pub record Passes (s : List ℕ) (inputs wires outputs cells : ℕ) : Type 0 whe
   pub wires-are : length (sheet .wireTypes) ≡ wires
   pub outputs-are : length (sheet .outputs) ≡ outputs
   pub cells-are : length (sheetForms sheet) ≡ cells
+  pub end : ℕ
+  pub view : SheetRead s sheet end cells
 
 -- the tests by these counts are those of the sheet
 pub own-tests : {s : List ℕ} {i w o k : ℕ} (p : Passes s i w o k) (memory input output : List ℕ)
@@ -106,6 +118,8 @@ passes s i w o k e = go (readSheet s) refl e
           wires-are = ws;
           outputs-are = outs;
           cells-are = sym (read-counted s q) ∙ count;
+          end = n;
+          view = rw count at v;
         }
 
 -- the answer where 1 to 11 are passed

@@ -1,16 +1,18 @@
 -- What the checks of the buffers answer.
-use Prim.Native.Nat.{ℕ, _*_}
+use Prim.Native.Nat.{ℕ, _*_, _<_}
+use mathlib.Core.Path.{_≡_}
 use mathlib.Core.Bool.{cond}
 use mathlib.Core.List.{List}
 use lib.Dec.{eqb}
-use lib.ListN.{length}
-use Rattle.sheet.specs.Data.{ValueType}
-use Rattle.sheet.specs.Expressions.{CellForm}
+use lib.ListN.{length, getD}
+use Rattle.sheet.specs.Data.{ValueType, boolean}
+use Rattle.sheet.specs.Expressions.{CellForm, fbyCell}
 use Rattle.sheet.specs.Outcomes.{Outcome, refusal, result}
 use Rattle.sheet.specs.Sheets.{sheetForms}
-use Rattle.sheet.specs.Memory.{memoryOf}
+use Rattle.sheet.specs.Memory.{formByte, memoryOf}
 use Rattle.sheet.specs.Rows.{inputsOf}
 use Rattle.sheet.specs.declared.Refusal.the-variants.{OutputLength}
+use Rattle.sheet_check.specs.Map.{formIn}
 use Rattle.kernel.specs.Calls.{Given}
 use Rattle.given.specs.declared.Given.{Given as Answer}
 use Rattle.given.specs.declared.Given.the-variants.{Refused, Passed}
@@ -39,3 +41,8 @@ buffersTested forms types outputs memory input output =
     andTested (testedOf (memoryOf forms memory))
     (andTested (testedOf (inputsOf types input))
     (cond (eqb (length output) (4 * outputs)) Fine (TestRefused OutputLength 0)))
+
+-- the entries of the map hold the forms of so many cells
+pub record Formed (fs : List CellForm) (entries : List ℕ) (count : ℕ) : Type 0 where
+  pub counted : length fs ≡ count
+  pub each : (k : ℕ) → k < count → formByte (getD fs k (fbyCell boolean)) ≡ formIn (getD entries k 0)

@@ -1,19 +1,22 @@
-// What an instant is given: the checks 1 to 16 of its buffers. Rests on `sheet_check` for 1 to 11 and the forms of the cells, on
-// `data` for what a word stands for, and on `numbers` for words.
+// What an instant is given: the checks 1 to 16 of its buffers. Rests on `sheet_check` for 1 to 11 and the map, which holds the forms
+// of the cells, on `data` for what a word stands for, and on `numbers` for words.
 use sheet::Checked;
 use sheet::Refusal;
 use sheet::data;
 ghost use mathlib.Core.Path.{_≡_};
-ghost use Prim.Native.Nat.{_*_, _≤_};
+ghost use Prim.Native.Nat.{ℕ, _*_, _≤_};
 ghost use mathlib.Core.List.{List, map};
-ghost use lib.ListN.{length, take};
+ghost use lib.ListN.{length};
 ghost use Rattle.sheet.specs.Data.{typeOfByte};
 ghost use Rattle.sheet.specs.Expressions.{CellForm};
 ghost use Rattle.sheet.specs.Outcomes.{lowest};
+ghost use Rattle.sheet.specs.Sheets.{Sheet};
 ghost use Rattle.sheet.specs.Memory.{formByte, validCell, invalidAt, memoryOf};
 ghost use Rattle.sheet.specs.Rows.{wrongAt, inputsOf};
+ghost use Rattle.sheet.specs.Laws.Headers.{SheetRead};
+ghost use Rattle.sheet_check.specs.Map.{Sited, wiresOf};
 ghost use Rattle.kernel.specs.Calls.{givenOf};
-ghost use Rattle.given.specs.Answers.{givenAnswer, testedOf, buffersTested};
+ghost use Rattle.given.specs.Answers.{givenAnswer, testedOf, buffersTested, Formed};
 
 // What the checks of an instant's buffers answer: the first refusal 1 to 16 with its place, or the four counts of the sheet.
 pub enum Given {
@@ -35,12 +38,23 @@ enum Tested {
     Fine,
 }
 
-// The checks 1 to 16 of a sheet, a memory, an input row and an output row.
-pub fn given_of(sheet: &[u8], memory: &[u8], input: &[u8], output: &[u8]) -> Given
+// The checks 1 to 16 of a sheet, a memory, an input row and an output row. Where they pass, the map of the sheet's wires is drawn.
+pub fn given_of(
+    sheet: &[u8],
+    memory: &[u8],
+    input: &[u8],
+    output: &[u8],
+    places: &mut [u16; 64],
+    firsts: &mut [u8; 64],
+    reads: &mut [u64; 64],
+) -> Given
+    requires { ⌜ (64 ≤ length (now places)) × (64 ≤ length (now firsts)) × (64 ≤ length (now reads)) ⌝ }
     ensures { λ r. ⌜ r ≡ givenAnswer (givenOf (now (sheet .entry)) (now (memory .entry)) (now (input .entry)) (now (output .entry))) ⌝ }
+    ensures { λ _. ⌜ ((s : Sheet) (n k : ℕ) (v : SheetRead (now (sheet .entry)) s n k)
+        → Sited (wiresOf v) (now (places .exit)) (now (firsts .exit)) (now (reads .exit))) ⌝ }
 {
-    let mut forms = [0u8; 64];
-    match sheet_check::check_forms(sheet, &mut forms) {
+    let mut forms = [0u16; 64];
+    match sheet_check::check_map(sheet, places, firsts, reads, &mut forms) {
         Checked::Refused { why, place } => Given::Refused { why, place },
         Checked::Passed {
             inputs,
@@ -62,9 +76,9 @@ pub fn given_of(sheet: &[u8], memory: &[u8], input: &[u8], output: &[u8]) -> Giv
     }
 }
 
-// 12 to 16, of a sheet with `cells` cells of these forms, inputs of these types and `outputs` outputs.
+// 12 to 16, of a sheet with `cells` cells, whose entries in the map hold these forms, inputs of these types and `outputs` outputs.
 fn check_buffers(
-    forms: &[u8],
+    forms: &[u16; 64],
     cells: usize,
     types: &[u8],
     outputs: usize,
@@ -72,9 +86,9 @@ fn check_buffers(
     input: &[u8],
     output: &[u8],
 ) -> Tested
-    requires { ⌜ (cells ≤ 64) × (cells ≤ length (now forms)) ⌝ }
+    requires { ⌜ cells ≤ 64 ⌝ }
     requires { ⌜ (length (now types) ≤ 16) × (outputs ≤ 16) ⌝ }
-    ensures { λ r. ⌜ ((fs : List CellForm) → map formByte fs ≡ take cells (now (forms .entry)) → r ≡ buffersTested fs
+    ensures { λ r. ⌜ ((fs : List CellForm) → Formed fs (now (forms .entry)) cells → r ≡ buffersTested fs
         (map typeOfByte (now (types .entry))) outputs (now (memory .entry)) (now (input .entry)) (now (output .entry))) ⌝ }
 {
     let of_memory = check_memory(forms, cells, memory);
@@ -95,9 +109,9 @@ fn check_buffers(
 }
 
 // 12 and 13: the memory has 5 bytes for each cell, and each cell is valid.
-fn check_memory(forms: &[u8], cells: usize, memory: &[u8]) -> Tested
-    requires { ⌜ (cells ≤ 64) × (cells ≤ length (now forms)) ⌝ }
-    ensures { λ r. ⌜ ((fs : List CellForm) → map formByte fs ≡ take cells (now (forms .entry))
+fn check_memory(forms: &[u16; 64], cells: usize, memory: &[u8]) -> Tested
+    requires { ⌜ cells ≤ 64 ⌝ }
+    ensures { λ r. ⌜ ((fs : List CellForm) → Formed fs (now (forms .entry)) cells
         → r ≡ testedOf (memoryOf fs (now (memory .entry)))) ⌝ }
 {
     if memory.len() != 5 * cells {
@@ -117,15 +131,16 @@ fn check_memory(forms: &[u8], cells: usize, memory: &[u8]) -> Tested
 }
 
 // The lowest cell that is not valid; where all are, their count.
-fn first_invalid(forms: &[u8], cells: usize, memory: &[u8]) -> usize
-    requires { ⌜ (cells ≤ length (now forms)) × (length (now memory) ≡ 5 * cells) ⌝ }
-    ensures { λ r. ⌜ ((fs : List CellForm) → map formByte fs ≡ take cells (now (forms .entry))
+fn first_invalid(forms: &[u16; 64], cells: usize, memory: &[u8]) -> usize
+    requires { ⌜ (cells ≤ 64) × (length (now memory) ≡ 5 * cells) ⌝ }
+    ensures { λ r. ⌜ ((fs : List CellForm) → Formed fs (now (forms .entry)) cells
         → r ≡ lowest (invalidAt fs (now (memory .entry))) cells) ⌝ }
 {
     let mut k = 0;
     while k < cells {
         let at = 5 * k;
-        if !valid_cell(forms[k], memory[at], numbers::word_at(memory, at + 1)) {
+        let form = (forms[k] % 4) as u8;
+        if !valid_cell(form, memory[at], numbers::word_at(memory, at + 1)) {
             return k;
         }
         k += 1;

@@ -13,46 +13,51 @@ use Rattle.sheet.specs.Rows.{rowBytes}
 use Rattle.sheet.specs.Laws.Lowest.{lowest-is}
 use Rattle.sheet.specs.declared.Refusal.{Refusal}
 use Rattle.sheet.specs.declared.Refusal.the-variants.{StaysUnknown}
-use Rattle.sheet_walk.specs.Starts.{StartsAt}
+use Rattle.sheet.specs.Sheets.{Sheet}
+use Rattle.sheet.specs.Laws.Headers.{SheetRead}
+use Rattle.sheet_check.specs.Map.{Sited, wiresOf}
 use Rattle.kernel.specs.Values.{isUnknown, IsKnown, known}
 use Rattle.kernel.specs.Order.{valueAt}
 use Rattle.kernel.specs.Systems.{Full}
 use Rattle.kernel.specs.Instants.{wireCount, outputRow}
 use Rattle.kernel.specs.Schedules.{scheduleOf, IsSchedule, pass}
 use Rattle.kernel.specs.Calls.{Given, givenOf, placeOfUnknown, inRounds, scheduled, roundsCall, scheduledCall}
-use Rattle.kernel.specs.Laws.Lists.{never}
+use Rattle.sheet.specs.Laws.Lists.{never}
 use Rattle.kernel.specs.Laws.Memory.{finished-typed}
 use Rattle.kernel.specs.Laws.Schedules.{schedule-passed, passed-schedule}
 use Rattle.kernel.specs.Laws.Demands.{givesOf, givenFinished, givenRounds, demand2, scheduled-accepted}
 use Rattle.kernel.specs.declared.Value.{Value}
 use Rattle.kernel.specs.declared.Value.the-variants.{Unknown}
+use Rattle.kernel.specs.declared.InRounds.{InRounds}
 use Rattle.kernel.specs.declared.InRounds.the-variants.{Refused as RefusedInRounds, Accepted as AcceptedInRounds}
 use Rattle.kernel.specs.declared.Scheduled.the-variants.{Refused as RefusedScheduled, Accepted as AcceptedScheduled}
 use Rattle.schedule.specs.Orders.{orderedAnswer}
 use Rattle.schedule.specs.declared.Ordered.the-variants.{Refused as RefusedOrder, Passed as PassedOrder}
 use Rattle.rounds.specs.Running.{Held, unheld, held, Holds}
 use Rattle.rounds.specs.Outputs.{Below, wordsOf, output-words}
-use Rattle.instant.specs.Along.{wiresOf, Along}
+use Rattle.instant.specs.Along.{Along}
 use Rattle.instant.specs.Settled.{Settled, storedOf}
-use Rattle.instant.specs.Leaves.{Leaves, Granted}
+use Rattle.instant.specs.Leaves.{Answers, Granted, Leaves}
 use Rattle.given.specs.Answers.{givenAnswer}
 use Rattle.given.specs.declared.Given.the-variants.{Refused as RefusedGiven, Passed as PassedGiven}
-use Rattle.instant.proofs.Laying.{Laid, typesAt, outputsAt, firstAt}
+use Rattle.instant.proofs.Laying.{Laid, typesAt, outputsAt}
 
 -- The checks 1 to 16: a refusal is handed up, and what passed is granted.
 refused-of : (o : Outcome Given) {why : Refusal} {place : ℕ} → RefusedGiven why place ≡ givenAnswer o → o ≡ refusal why place
 refused-of (refusal why place) e = cc
 refused-of (result g) e = never (cc)
 
-pub granted : {s memory input output : List ℕ} {inputs wires outputs cells : ℕ}
+pub granted : {s memory input output places firsts reads : List ℕ} {inputs wires outputs cells : ℕ}
     → PassedGiven inputs wires outputs cells ≡ givenAnswer (givenOf s memory input output)
-    → Granted s memory input output inputs wires outputs
-granted {s} {memory} {input} {output} {inputs} {wires} {outputs} {cells} e = go (givenOf s memory input output) refl e
+    → ((sheet : Sheet) (n k : ℕ) (v : SheetRead s sheet n k) → Sited (wiresOf v) places firsts reads)
+    → Granted s memory input output places firsts reads inputs wires outputs
+granted {s} {memory} {input} {output} {places} {firsts} {reads} {inputs} {wires} {outputs} {cells} e drawn =
+    go (givenOf s memory input output) refl e
   where
     go : (o : Outcome Given) → givenOf s memory input output ≡ o → PassedGiven inputs wires outputs cells ≡ givenAnswer o
-        → Granted s memory input output inputs wires outputs
+        → Granted s memory input output places firsts reads inputs wires outputs
     go (refusal why place) q e = never (cc)
-    go (result g) q e = record { given = g; passes = q; ofInputs = cc; ofWires = cc; ofOutputs = cc }
+    go (result g) q e = record { given = g; passes = q; drawn = drawn; ofInputs = cc; ofWires = cc; ofOutputs = cc }
 
 module _ (s memory input output : List ℕ) {why : Refusal} {place : ℕ}
     (e : RefusedGiven why place ≡ givenAnswer (givenOf s memory input output)) where
@@ -106,7 +111,8 @@ module _ {n bits : ℕ} {words : List ℕ} {values : List Value} (h : Holds n bi
       }
 
 -- The values of buffers that passed 1 to 16.
-module _ {s memory input output : List ℕ} {inputs wires outputs : ℕ} (l : Laid s memory input output inputs wires outputs) where
+module _ {s memory input output places firsts reads : List ℕ} {inputs wires outputs : ℕ}
+    (l : Laid s memory input output places firsts reads inputs wires outputs) where
   abbrev pub given : Given
   given = l .running .given
 
@@ -118,7 +124,7 @@ module _ {s memory input output : List ℕ} {inputs wires outputs : ℕ} (l : La
   HoldsFinished bits words = Holds count bits words (givenFinished given)
 
   abbrev pub settled : {bits : ℕ} {words : List ℕ} → HoldsFinished bits words
-      → Settled s memory input (typesAt s inputs wires outputs) (firstAt s inputs wires outputs) bits words
+      → Settled s memory input (typesAt s inputs wires outputs) places firsts bits words
   settled h =
       let r = l .running in
       record {
@@ -139,43 +145,35 @@ module _ {s memory input output : List ℕ} {inputs wires outputs : ℕ} (l : La
 
   -- In rounds.
   module _ {bits : ℕ} {words : List ℕ} (h : HoldsFinished bits words) where
-    pub unknown-refused : {place : ℕ} → (tally (member bits) 64 ≡ count → ⊥) → LowestMissing (member bits) 64 place
-        → Leaves (roundsCall s memory input output) (RefusedInRounds StaysUnknown place) memory output
-    unfolding roundsCall
-    unknown-refused {place} differ missing =
-        let low = lowest-unknown h (l .running .few) differ missing in
-        let place-is : placeOfUnknown (wireCount (given .sheet)) (givenFinished given) ≡ place =
-        ap (λ (n : ℕ). placeOfUnknown n (givenFinished given)) (l .wired) ∙ sym (low .is) in
-        let e : followedBy (givenOf s memory input output) inRounds ≡ refusal StaysUnknown place =
-        rw (l .passes)
-        (demand2 given .refused place (omega (arith, l .wired, low .inside)) (low .unknown) ∙ ap (refusal StaysUnknown) place-is) in
-        record { answers = rw e; stores = rw e; writes = rw e }
+    module _ {full : Bool} {rounds : ℕ} {answer : InRounds} (answers : Answers full rounds bits answer) {new row : List ℕ} where
+      pub unknown-refused : full ≡ false → (tally (member bits) 64 ≡ count → ⊥) → new ≡ memory → row ≡ output
+          → Leaves (roundsCall s memory input output) answer new row
+      unfolding roundsCall
+      unknown-refused left differ stays still =
+          let place = answers .place in
+          let low = lowest-unknown h (l .running .few) differ (answers .lowest) in
+          let place-is : placeOfUnknown (wireCount (given .sheet)) (givenFinished given) ≡ place =
+          ap (λ (n : ℕ). placeOfUnknown n (givenFinished given)) (l .wired) ∙ sym (low .is) in
+          let e : followedBy (givenOf s memory input output) inRounds ≡ refusal StaysUnknown place =
+          rw (l .passes)
+          (demand2 given .refused place (omega (arith, l .wired, low .inside)) (low .unknown) ∙ ap (refusal StaysUnknown) place-is) in
+          let is : answer ≡ RefusedInRounds StaysUnknown place = rw left at (answers .is) in
+          record { answers = rw (e, is); stores = rw e stays; writes = rw e still }
 
-    pub rounds-accepted : {rounds : ℕ} {new row : List ℕ} → tally (member bits) 64 ≡ count → rounds ≡ givenRounds given
-        → new ≡ storedOf (settled h) → row ≡ wordsOf (outputsAt s inputs wires outputs) words
-        → Leaves (roundsCall s memory input output) (AcceptedInRounds rounds) new row
-    unfolding roundsCall
-    rounds-accepted all made stores writes =
-        let full = all-known h (l .running .few) all in
-        let e : followedBy (givenOf s memory input output) inRounds ≡ result (givesOf given (givenRounds given) (givenFinished given)) =
-        rw (l .passes) (demand2 given .accepted (rw (l .wired) full)) in
-        record { answers = rw (e, made); stores = rw e stores; writes = rw e (writes ∙ written h full) }
+      pub rounds-accepted : full ≡ true → tally (member bits) 64 ≡ count → rounds ≡ givenRounds given → new ≡ storedOf (settled h)
+          → row ≡ wordsOf (outputsAt s inputs wires outputs) words → Leaves (roundsCall s memory input output) answer new row
+      unfolding roundsCall
+      rounds-accepted taken all made stores writes =
+          let known = all-known h (l .running .few) all in
+          let e : followedBy (givenOf s memory input output) inRounds ≡ result (givesOf given (givenRounds given) (givenFinished given)) =
+          rw (l .passes) (demand2 given .accepted (rw (l .wired) known)) in
+          let is : answer ≡ AcceptedInRounds rounds = rw taken at (answers .is) in
+          record { answers = rw (e, is, made); stores = rw e stores; writes = rw e (writes ∙ written h known) }
 
-  -- Along a schedule, where the wires' expressions start at the places.
-  abbrev pub Sited : List ℕ → List ℕ → Type 0
-  Sited places firsts = (w : ℕ) → w < count → StartsAt (wiresOf (l .running)) w (getD places w 0) (getD firsts w 0)
-
-  abbrev pub along : {places firsts list words : List ℕ} → Sited places firsts → IsSchedule (given .sheet) list → count ≤ length words
+  -- Along a schedule.
+  abbrev pub along : {list words : List ℕ} → IsSchedule (given .sheet) list → count ≤ length words
       → Along s memory input (typesAt s inputs wires outputs) places firsts list words
-  along sited h room =
-      record {
-        first = firstAt s inputs wires outputs;
-        running = l .running;
-        starts = sited;
-        wires = λ p m. rw (l .wired) at (h .wires p m);
-        once = h .once;
-        room = room;
-      }
+  along h room = record { running = l .running; wires = λ p m. rw (l .wired) at (h .wires p m); once = h .once; room = room }
 
   pub order-refused : (list : List ℕ) {why : Refusal} {place : ℕ} → RefusedOrder why place ≡ orderedAnswer (scheduleOf (given .sheet) list)
       → Leaves (scheduledCall s memory input output list) (RefusedScheduled why place) memory output

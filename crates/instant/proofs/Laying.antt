@@ -6,7 +6,8 @@ use native.Mathlib.Omega.{arith}
 use lib.ListN.{length, getD, take, drop}
 use Rattle.sheet.specs.Outcomes.{result}
 use Rattle.sheet.specs.Laws.Typing.{passed-check}
-use Rattle.kernel.specs.Instants.{wireCount}
+use Rattle.sheet_check.specs.Map.{HoldsJust}
+use Rattle.kernel.specs.Instants.{wireCount, readsAt}
 use Rattle.kernel.specs.Calls.{Given, givenOf}
 use Rattle.kernel.specs.Laws.Given.{given-by}
 use Rattle.rounds.specs.Running.{Running}
@@ -25,8 +26,10 @@ module _ (s : List ℕ) (inputs wires outputs : ℕ) where
   abbrev pub firstAt : ℕ
   firstAt = 2 + inputs + wires + 1 + outputs
 
-pub record Laid (s memory input output : List ℕ) (inputs wires outputs : ℕ) : Type 0 where
-  pub running : Running s memory input (typesAt s inputs wires outputs) (firstAt s inputs wires outputs)
+pub record Laid (s memory input output places firsts reads : List ℕ) (inputs wires outputs : ℕ) : Type 0 where
+  pub running : Running s memory input (typesAt s inputs wires outputs) places firsts
+  pub reading : (w : ℕ) → w < length (typesAt s inputs wires outputs)
+      → HoldsJust (getD reads w 0) (readsAt (running .given .sheet .expressions) w)
   pub passes : givenOf s memory input output ≡ result (running .given)
   pub outs : running .given .sheet .outputs ≡ outputsAt s inputs wires outputs
   pub wired : wireCount (running .given .sheet) ≡ length (typesAt s inputs wires outputs)
@@ -35,20 +38,22 @@ pub record Laid (s memory input output : List ℕ) (inputs wires outputs : ℕ) 
   pub within : firstAt s inputs wires outputs ≤ length s
 
 -- what runs, by equal names
-record Runs (s memory input types : List ℕ) (first : ℕ) (given : Given) : Type 0 where
-  running : Running s memory input types first
+record Runs (s memory input types places firsts reads : List ℕ) (given : Given) : Type 0 where
+  running : Running s memory input types places firsts
   same : running .given ≡ given
+  reading : (w : ℕ) → w < length types → HoldsJust (getD reads w 0) (readsAt (given .sheet .expressions) w)
 
-renamed : {s memory input types others : List ℕ} {first at : ℕ} {given : Given} → types ≡ others → first ≡ at
-    → Runs s memory input types first given → Runs s memory input others at given
-renamed p q r = rw (p, q) at r
+renamed : {s memory input types others places firsts reads : List ℕ} {given : Given} → types ≡ others
+    → Runs s memory input types places firsts reads given → Runs s memory input others places firsts reads given
+renamed p r = rw p at r
 
-module _ {s memory input output : List ℕ} {inputs wires outputs : ℕ} (g : Granted s memory input output inputs wires outputs) where
-  pub laid : ((i : ℕ) → getD memory i 0 < 256) → Laid s memory input output inputs wires outputs
+module _ {s memory input output places firsts reads : List ℕ} {inputs wires outputs : ℕ}
+    (g : Granted s memory input output places firsts reads inputs wires outputs) where
+  pub laid : ((i : ℕ) → getD memory i 0 < 256) → Laid s memory input output places firsts reads inputs wires outputs
   unfolding Below
   laid small =
       let given = g .given in
-      let p = parts s memory input output given (g .passes) small in
+      let p = parts s memory input output places firsts reads given (g .passes) (g .drawn) small in
       let by = given-by s memory input output given (g .passes) in
       let passed = passed-check s (by .sheet) in
       let i = g .ofInputs in
@@ -64,11 +69,12 @@ module _ {s memory input output : List ℕ} {inputs wires outputs : ℕ} (g : Gr
       p .outputs ∙ ap₂ (λ (a b : ℕ). take a (drop b s)) size from in
       let wired : length (given .sheet .expressions) ≡ length (typesAt s inputs wires outputs) =
       sym (passed .same-length) ∙ sym (p .sized) ∙ ap length types in
-      let first : 3 + length (given .sheet .inputTypes) + length (given .sheet .wireTypes) + length (given .sheet .outputs)
-      ≡ firstAt s inputs wires outputs = omega arith in
-      let r = renamed types first (record { running = p .running; same = p .same }) in
+      let whole : Runs s memory input (take (length (given .sheet .wireTypes)) (drop (2 + length (given .sheet .inputTypes)) s)) places firsts reads given =
+      record { running = p .running; same = p .same; reading = p .reading } in
+      let r = renamed types whole in
       record {
         running = r .running;
+        reading = rw (r .same) (r .reading);
         passes = rw (r .same) (g .passes);
         outs = rw (r .same) outs;
         wired = rw (r .same) wired;

@@ -1,25 +1,19 @@
 -- How a pass goes on: the values so far, of which the set and the words hold each, and the rest of the list, whose wires are unknown.
-use Prim.Native.Nat.{ℕ, zero, suc, _+_, _≤_, _<_}
+use Prim.Native.Nat.{ℕ, _+_, _≤_, _<_}
 use mathlib.Core.Path.{_≡_, refl, sym, ap, _∙_}
 use mathlib.Core.Logic.{_≢_}
 use mathlib.Core.Bool.{false}
 use mathlib.Core.Option.{some}
-use mathlib.Core.List.{List, [], _∷_}
-use native.Mathlib.Nat.{zero-add, add-zero}
+use mathlib.Core.List.{List}
 use native.Mathlib.Numerals.{add-one}
 use native.Mathlib.Omega.{arith}
-use lib.ListN.{length, getD, getElem?, take, drop, set, length-append, length-set, length-replicate}
+use lib.ListN.{length, getD, getElem?, drop, set, length-set, length-replicate}
 use lib.Seq.{drop-cons, drop-length, getD-set-same, getD-set-other}
 use Rattle.wires.specs.Sets.{member}
 use Rattle.sheet.specs.Data.{ValueType}
-use Rattle.sheet.specs.Expressions.{Expression, constant, cellForms, cellCount}
-use Rattle.sheet.specs.Sheets.{formsOf}
-use Rattle.sheet.specs.Laws.Readings.{forms-length, run-extent}
-use Rattle.sheet.specs.declared.Cell.{Cell}
-use Rattle.sheet.specs.declared.Datum.the-variants.{Boolean}
 use Rattle.kernel.specs.Values.{Fits, unknown-fits}
 use Rattle.kernel.specs.Order.{valueAt, allUnknown}
-use Rattle.kernel.specs.Instant.{Environment, under, value}
+use Rattle.kernel.specs.Instant.{Environment, under}
 use Rattle.kernel.specs.Instants.{wireCount, valueOfWire}
 use Rattle.kernel.specs.Schedules.{passFrom, pass}
 use Rattle.kernel.specs.Laws.Order.{unknown-at}
@@ -29,46 +23,14 @@ use Rattle.kernel.specs.Laws.Memory.{round-typed}
 use Rattle.kernel.specs.declared.Value.{Value}
 use Rattle.kernel.specs.declared.Value.the-variants.{Unknown}
 use Rattle.expression.specs.declared.Valued.{Valued}
-use Rattle.expression.specs.Places.{CellsStand, Placement, valuedOf}
-use Rattle.expression.proofs.Views.{cells-split}
+use Rattle.expression.specs.Places.{Placement, valuedOf}
 use Rattle.rounds.specs.Running.{Running, Held, unheld, Holds, Put}
-use Rattle.rounds.proofs.Rounding.{at-or-else, put-length, put-other, put-held, running-stands}
+use Rattle.rounds.proofs.Wires.{wires-counted, wire-placed, wire-valued}
+use Rattle.rounds.proofs.Rounding.{at-or-else, put-length, put-other, put-held}
 use Rattle.instant.specs.Along.{Along, passedOf}
 
-abbrev pub treeAt : List Expression → ℕ → Expression
-treeAt es w = getD es w (constant (Boolean false))
-
--- how many cells the wires before w own
-abbrev cellsBefore : List Expression → ℕ → ℕ
-cellsBefore es w = length (formsOf (take w es))
-
--- the cells behind those of the first expression
-behind-first : (e : Expression) (es : List Expression) (k w : ℕ)
-    → k + cellsBefore (e ∷ es) (suc w) ≡ k + length (cellForms e) + cellsBefore es w
-unfolding formsOf
-behind-first e es k w = omega (arith, length-append (cellForms e) (formsOf (take w es)))
-
--- the value of a wire, by its tree and the number of its first cell
-value-of-wire : (now : Environment) (es : List Expression) (k w : ℕ) → w < length es
-    → valueOfWire now es k w ≡ value now false (treeAt es w) (k + cellsBefore es w)
-unfolding valueOfWire formsOf
-value-of-wire now [] k w l = absurd (omega arith)
-value-of-wire now (e ∷ es) k zero l = rw add-zero
-value-of-wire now (e ∷ es) k (suc w) l =
-    rw (behind-first e es k w, forms-length e) (value-of-wire now es (k + cellCount e) w (omega arith))
-
--- the cells of a wire stand where its first one has its number
-cells-of-wire : {memory : List ℕ} {cells : List Cell} (es : List Expression) (k w : ℕ) → w < length es
-    → CellsStand memory cells k (formsOf es) → CellsStand memory cells (k + cellsBefore es w) (cellForms (treeAt es w))
-unfolding formsOf
-cells-of-wire [] k w l s = absurd (omega arith)
-cells-of-wire (e ∷ es) k zero l s = rw add-zero (cells-split (cellForms e) (formsOf es) s .0)
-cells-of-wire (e ∷ es) k (suc w) l s =
-    rw (behind-first e es k w)
-    (cells-of-wire es (k + length (cellForms e)) w (omega arith) (cells-split (cellForms e) (formsOf es) s .1))
-
 module _ {s memory input types places firsts list start : List ℕ} (a : Along s memory input types places firsts list start) where
-  abbrev run : Running s memory input types (a .first)
+  abbrev run : Running s memory input types places firsts
   run = a .running
 
   abbrev environment : List Value → Environment
@@ -76,9 +38,6 @@ module _ {s memory input types places firsts list start : List ℕ} (a : Along s
 
   abbrev worthOf : List Value → ℕ → Value
   worthOf values = valueOfWire (environment values) (run .given .sheet .expressions) 0
-
-  sized : length (run .given .sheet .expressions) ≡ length types
-  sized = run-extent (run .inputs) types s 16 types (a .first) 0 (run .run) .sized
 
   -- the values after the first p positions
   pub record Sofar (p bits : ℕ) (words : List ℕ) : Type 0 where
@@ -95,7 +54,7 @@ module _ {s memory input types places firsts list start : List ℕ} (a : Along s
       record {
         values = allUnknown n;
         holds = record {
-          size = length-replicate n Unknown ∙ sized;
+          size = length-replicate n Unknown ∙ wires-counted run;
           room = a .room;
           each = λ w l. rw (none w, unknown-at n w) unheld;
           beyond = λ w l. none w;
@@ -105,35 +64,11 @@ module _ {s memory input types places firsts list start : List ℕ} (a : Along s
         rest = refl;
       }
 
-  pub placed-cells : (w : ℕ) → w < length types
-      → CellsStand memory (run .given .memory) (getD firsts w 0) (cellForms (treeAt (run .given .sheet .expressions) w))
-  placed-cells w l =
-      let es = run .given .sheet .expressions in
-      rw (a .starts w l .first, ← (zero-add (cellsBefore es w))) (cells-of-wire es 0 w (omega (arith, sized)) (run .cells))
-
   -- where the expression of the wire at position p stands
-  abbrev pub placed : {p bits : ℕ} {words : List ℕ} → Sofar p bits words → p < length list
-      → Placement s input memory words bits 16 (getD types (getD list p 0) 0) (getD places (getD list p 0) 0) (getD firsts (getD list p 0) 0)
-  placed {p} h l =
-      let w = getD list p 0 in
-      let at = a .starts w (a .wires p l) in
-      record {
-        inputs = run .inputs;
-        wires = types;
-        now = environment (h .values);
-        tree = treeAt (run .given .sheet .expressions) w;
-        next = at .next;
-        count = at .count;
-        reads = at .reads;
-        stands = running-stands run (h .holds) (h .typed);
-        cells = placed-cells w (a .wires p l);
-      }
-
-  valued : (values : List Value) (w : ℕ) → w < length types
-      → value (environment values) false (treeAt (run .given .sheet .expressions) w) (getD firsts w 0) ≡ worthOf values w
-  valued values w l =
-      let es = run .given .sheet .expressions in
-      rw (a .starts w l .first, ← (zero-add (cellsBefore es w))) (sym (value-of-wire (environment values) es 0 w (omega (arith, sized))))
+  abbrev pub placed : {p bits at cell : ℕ} {words : List ℕ} → Sofar p bits words → p < length list
+      → at ≡ getD places (getD list p 0) 0 → cell ≡ getD firsts (getD list p 0) 0
+      → Placement s input memory words bits 16 (getD types (getD list p 0) 0) at cell
+  placed {p} h l = wire-placed run (h .holds) (h .typed) (getD list p 0) (a .wires p l)
 
   -- a wire's value has its type
   worth-typed : (values : List Value) → OnWires Fits (run .given .sheet .wireTypes) values → (w : ℕ) (t : ValueType)
@@ -144,16 +79,16 @@ module _ {s memory input types places firsts list start : List ℕ} (a : Along s
       at (round-typed (run .given .sheet) (run .given .inputs) (run .given .memory) (run .wellTyped) (run .validInputs) (run .validMemory)
       Fits fits-inherited values typed w t e)
 
-  pub further : {p bits after : ℕ} {words new : List ℕ} (h : Sofar p bits words) (l : p < length list) (v : Valued)
-      → v ≡ valuedOf (placed h l) false → Put (getD list p 0) bits words (v .value) after new → Sofar (p + 1) after new
+  pub further : {p bits after at cell : ℕ} {words new : List ℕ} (h : Sofar p bits words) (l : p < length list)
+      (at-is : at ≡ getD places (getD list p 0) 0) (cell-is : cell ≡ getD firsts (getD list p 0) 0) (v : Valued)
+      → v ≡ valuedOf (placed h l at-is cell-is) false → Put (getD list p 0) bits words (v .value) after new → Sofar (p + 1) after new
   unfolding OnWires passFrom
-  further {p} {bits} {after} {words} {new} h l v e was =
+  further {p} {bits} {after} {words = words} {new = new} h l at-is cell-is v e was =
       let w = getD list p 0 in
-      let es = run .given .sheet .expressions in
       let values = h .values in
       let inside : w < length types = a .wires p l in
       let here : w < length values = omega (arith, h .holds .size) in
-      let worth : v .value ≡ worthOf values w = ap (λ (x : Valued). x .value) e ∙ valued values w inside in
+      let worth : v .value ≡ worthOf values w = ap (λ (x : Valued). x .value) e ∙ wire-valued run values w inside cell-is in
       let anew : valueAt (set values w (worthOf values w)) w ≡ v .value = getD-set-same values w (worthOf values w) Unknown here ∙ sym worth in
       let kept : (x : ℕ) → x ≢ w → valueAt (set values w (worthOf values w)) x ≡ valueAt values x =
       λ x other. getD-set-other values w x (worthOf values w) Unknown other in

@@ -1,31 +1,15 @@
 -- What a pass along a list of wires asks for, and the values that it comes to.
 use Prim.Native.Nat.{ℕ, _≤_, _<_}
-use mathlib.Core.Path.{_≡_, refl}
+use mathlib.Core.Path.{_≡_}
 use mathlib.Core.List.{List}
 use lib.ListN.{length, getD}
-use Rattle.sheet_walk.specs.Starts.{WiresRead, StartsAt}
 use Rattle.kernel.specs.Schedules.{pass}
 use Rattle.kernel.specs.declared.Value.{Value}
 use Rattle.rounds.specs.Running.{Running}
 
--- the wires' expressions, as they read in what runs
-abbrev pub wiresOf : {s memory input types : List ℕ} {first : ℕ} → Running s memory input types first → WiresRead s (length types) first
-wiresOf {types = types} r =
-    record {
-      inputs = r .inputs;
-      types = types;
-      trees = r .given .sheet .expressions;
-      next = r .next;
-      count = r .count;
-      sized = refl;
-      reads = r .run;
-    }
-
--- what runs, where its wires' expressions start, and a list that names wires, none of them twice
+-- what runs, and a list that names wires, none of them twice
 pub record Along (s memory input types places firsts list words : List ℕ) : Type 0 where
-  pub first : ℕ
-  pub running : Running s memory input types first
-  pub starts : (w : ℕ) → w < length types → StartsAt (wiresOf running) w (getD places w 0) (getD firsts w 0)
+  pub running : Running s memory input types places firsts
   pub wires : (p : ℕ) → p < length list → getD list p 0 < length types
   pub once : (p q : ℕ) → p < q → q < length list → getD list p 0 ≡ getD list q 0 → ⊥
   pub room : length types ≤ length words

@@ -5,41 +5,67 @@ use kernel::InRounds;
 use kernel::Scheduled;
 use schedule::Ordered;
 use sheet::Refusal;
+use wires::Wires;
 
 pub mod agreement;
 pub mod pass;
 pub mod store;
 
 ghost use Rattle.kernel.specs.Calls.{roundsCall, scheduledCall};
-ghost use Rattle.instant.specs.Leaves.{Granted, Leaves};
+ghost use Rattle.instant.specs.Leaves.{Answers, Granted, Leaves};
 
 // The instant in rounds.
 pub fn in_rounds(sheet: &[u8], memory: &mut [u8], input: &[u8], output: &mut [u8]) -> InRounds
     ensures { λ r. ⌜ Leaves (roundsCall (now (sheet .entry)) (now (memory .entry)) (now (input .entry)) (now (output .entry)))
         r (now (memory .exit)) (now (output .exit)) ⌝ }
 {
-    match given::given_of(sheet, memory, input, output) {
+    let mut places = [0u16; 64];
+    let mut firsts = [0u8; 64];
+    let mut reads = [0u64; 64];
+    match given::given_of(
+        sheet,
+        memory,
+        input,
+        output,
+        &mut places,
+        &mut firsts,
+        &mut reads,
+    ) {
         Given::Refused { why, place } => InRounds::Refused { why, place },
         Given::Passed {
             inputs,
             wires,
             outputs,
             cells: _,
-        } => solve_in_rounds(sheet, memory, input, output, inputs, wires, outputs),
+        } => solve_in_rounds(
+            sheet,
+            memory,
+            input,
+            output,
+            &places,
+            &firsts,
+            &reads,
+            inputs,
+            wires,
+            outputs,
+        ),
     }
 }
 
-// The instant in rounds, of buffers that passed 1 to 16, by the counts of the sheet: 20, or what the finished values leave.
+// The instant in rounds, of buffers that passed 1 to 16, by the map and the counts of the sheet: what the finished values leave, or 20.
 fn solve_in_rounds(
     sheet: &[u8],
     memory: &mut [u8],
     input: &[u8],
     output: &mut [u8],
+    places: &[u16; 64],
+    firsts: &[u8; 64],
+    reads: &[u64; 64],
     inputs: usize,
     wires: usize,
     outputs: usize,
 ) -> InRounds
-    requires { ⌜ Granted (now sheet) (now memory) (now input) (now output) inputs wires outputs ⌝ }
+    requires { ⌜ Granted (now sheet) (now memory) (now input) (now output) (now places) (now firsts) (now reads) inputs wires outputs ⌝ }
     ensures { λ r. ⌜ Leaves (roundsCall (now (sheet .entry)) (now (memory .entry)) (now (input .entry)) (now (output .entry)))
         r (now (memory .exit)) (now (output .exit)) ⌝ }
 {
@@ -49,18 +75,27 @@ fn solve_in_rounds(
     let first = named + outputs;
     let types = &sheet[from..to];
     let mut words = [0u32; 64];
-    let solved = rounds::finish(sheet, memory, input, types, first, &mut words);
+    let solved = rounds::finish(sheet, memory, input, types, places, firsts, &mut words);
     let known = solved.known;
-    if known.count() as usize != types.len() {
-        return InRounds::Refused {
-            why: Refusal::StaysUnknown,
-            place: known.lowest_missing() as usize,
-        };
+    let full = known.count() as usize == types.len();
+    if full {
+        store::store(sheet, memory, input, types, places, firsts, known, &words);
+        rounds::write_row(&sheet[named..first], &words, output);
     }
-    store::store(sheet, memory, input, types, first, known, &words);
-    rounds::write_row(&sheet[named..first], &words, output);
-    InRounds::Accepted {
-        rounds: solved.rounds,
+    answered(full, solved.rounds, known)
+}
+
+// The answer in rounds, by whether it is accepted: 20 at the lowest wire that is not known.
+fn answered(accepted: bool, rounds: usize, known: Wires) -> InRounds
+    ensures { λ r. ⌜ Answers accepted rounds (known .bits) r ⌝ }
+{
+    let place = known.lowest_missing() as usize;
+    if accepted {
+        return InRounds::Accepted { rounds };
+    }
+    InRounds::Refused {
+        why: Refusal::StaysUnknown,
+        place,
     }
 }
 
@@ -75,7 +110,18 @@ pub fn along_schedule(
     ensures { λ r. ⌜ Leaves (scheduledCall (now (sheet .entry)) (now (memory .entry)) (now (input .entry)) (now (output .entry))
         (now (schedule .entry))) r (now (memory .exit)) (now (output .exit)) ⌝ }
 {
-    match given::given_of(sheet, memory, input, output) {
+    let mut places = [0u16; 64];
+    let mut firsts = [0u8; 64];
+    let mut reads = [0u64; 64];
+    match given::given_of(
+        sheet,
+        memory,
+        input,
+        output,
+        &mut places,
+        &mut firsts,
+        &mut reads,
+    ) {
         Given::Refused { why, place } => Scheduled::Refused { why, place },
         Given::Passed {
             inputs,
@@ -88,6 +134,9 @@ pub fn along_schedule(
             input,
             output,
             schedule,
+            &places,
+            &firsts,
+            &reads,
             inputs,
             wires,
             outputs,
@@ -95,19 +144,22 @@ pub fn along_schedule(
     }
 }
 
-// The instant along a schedule, of buffers that passed 1 to 16, by the counts of the sheet: 17 to 19, or what the pass leaves, after
-// which no wire is unknown.
+// The instant along a schedule, of buffers that passed 1 to 16, by the map and the counts of the sheet: 17 to 19, or what the pass
+// leaves, after which no wire is unknown.
 fn solve_along(
     sheet: &[u8],
     memory: &mut [u8],
     input: &[u8],
     output: &mut [u8],
     schedule: &[u8],
+    places: &[u16; 64],
+    firsts: &[u8; 64],
+    reads: &[u64; 64],
     inputs: usize,
     wires: usize,
     outputs: usize,
 ) -> Scheduled
-    requires { ⌜ Granted (now sheet) (now memory) (now input) (now output) inputs wires outputs ⌝ }
+    requires { ⌜ Granted (now sheet) (now memory) (now input) (now output) (now places) (now firsts) (now reads) inputs wires outputs ⌝ }
     ensures { λ r. ⌜ Leaves (scheduledCall (now (sheet .entry)) (now (memory .entry)) (now (input .entry)) (now (output .entry))
         (now (schedule .entry))) r (now (memory .exit)) (now (output .exit)) ⌝ }
 {
@@ -116,16 +168,7 @@ fn solve_along(
     let named = to + 1;
     let first = named + outputs;
     let types = &sheet[from..to];
-    let mut places = [0usize; 64];
-    let mut firsts = [0usize; 64];
-    match schedule::check_schedule(
-        sheet,
-        schedule,
-        types.len(),
-        first,
-        &mut places,
-        &mut firsts,
-    ) {
+    match schedule::check_schedule(schedule, wires, reads) {
         Ordered::Refused { why, place } => Scheduled::Refused { why, place },
         Ordered::Passed => {
             let mut words = [0u32; 64];
@@ -134,12 +177,12 @@ fn solve_along(
                 memory,
                 input,
                 types,
-                &places,
-                &firsts,
+                places,
+                firsts,
                 schedule,
                 &mut words,
             );
-            store::store(sheet, memory, input, types, first, known, &words);
+            store::store(sheet, memory, input, types, places, firsts, known, &words);
             rounds::write_row(&sheet[named..first], &words, output);
             Scheduled::Accepted
         }

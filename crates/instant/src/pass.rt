@@ -1,5 +1,6 @@
 // The pass along a list of wires, each of which is worked out once. Rests on `expression` and on `rounds` for the set and the words.
 use expression::value;
+use sheet_check::map;
 use wires::Wires;
 ghost use lib.ListN.{length};
 ghost use Rattle.rounds.specs.Running.{Holds};
@@ -11,8 +12,8 @@ pub fn pass(
     memory: &[u8],
     input: &[u8],
     types: &[u8],
-    places: &[usize; 64],
-    firsts: &[usize; 64],
+    places: &[u16; 64],
+    firsts: &[u8; 64],
     list: &[u8],
     words: &mut [u32; 64],
 ) -> Wires
@@ -25,6 +26,8 @@ pub fn pass(
     let mut p = 0;
     while p < list.len() {
         let w = list[p] as usize;
+        let at = map::place(places[w]);
+        let cell = map::first(firsts[w]);
         let v = value::value_expression(
             sheet,
             &input,
@@ -33,8 +36,8 @@ pub fn pass(
             words,
             16,
             types[w],
-            places[w],
-            firsts[w],
+            at,
+            cell,
             false,
         );
         let worth = v.value;

@@ -1,41 +1,58 @@
 // The next memory: all wires advance, one after the other, in one memory. Rests on `advance` for one expression.
+use sheet_check::map;
 use storing::advance;
 use wires::Wires;
 ghost use mathlib.Core.Path.{_≡_};
+ghost use mathlib.Core.Bool.{false};
+ghost use Prim.Native.Nat.{_+_, _<_, _≤_};
+ghost use lib.ListN.{getD};
 ghost use Rattle.instant.specs.Settled.{Settled, storedOf};
 
-// Stores the cells of all wires under the finished values, which the set and the words hold.
+// Stores the cells of all wires under the finished values, which the set and the words hold. A wire without cells is passed over.
 pub fn store(
     sheet: &[u8],
     memory: &mut [u8],
     input: &[u8],
     types: &[u8],
-    first: usize,
+    places: &[u16; 64],
+    firsts: &[u8; 64],
     known: Wires,
     words: &[u32; 64],
 )
-    requires { ⌜ Settled (now sheet) (now memory) (now input) (now types) first (known .bits) (now words) ⌝ }
-    ensures { λ _. ⌜ ((f : Settled (now (sheet .entry)) (now (memory .entry)) (now (input .entry)) (now (types .entry)) first
-        (known .bits) (now (words .entry))) → now (memory .exit) ≡ storedOf f) ⌝ }
+    requires { ⌜ Settled (now sheet) (now memory) (now input) (now types) (now places) (now firsts) (known .bits) (now words) ⌝ }
+    ensures { λ _. ⌜ ((f : Settled (now (sheet .entry)) (now (memory .entry)) (now (input .entry)) (now (types .entry))
+        (now (places .entry)) (now (firsts .entry)) (known .bits) (now (words .entry))) → now (memory .exit) ≡ storedOf f) ⌝ }
 {
-    let mut at = first;
-    let mut cell = 0;
     let mut w = 0;
     while w < types.len() {
-        let v = advance::advance_expression(
-            sheet,
-            &input,
-            memory,
-            known,
-            words,
-            16,
-            types[w],
-            at,
-            cell,
-            false,
-        );
-        at = v.next;
-        cell = v.cell;
+        if may_own(firsts, w, types.len()) {
+            let at = map::place(places[w]);
+            let cell = map::first(firsts[w]);
+            advance::advance_expression(
+                sheet,
+                &input,
+                memory,
+                known,
+                words,
+                16,
+                types[w],
+                at,
+                cell,
+                false,
+            );
+        }
         w += 1;
     }
+}
+
+// Whether wire w may own cells: it is the last wire, or the next one's first cell has another number.
+fn may_own(firsts: &[u8; 64], w: usize, wires: usize) -> bool
+    requires { ⌜ (w < wires) × (wires ≤ 64) ⌝ }
+    ensures { λ r. ⌜ (r ≡ false → (w + 1 < wires) × (getD (now (firsts .entry)) w 0 ≡ getD (now (firsts .entry)) (w + 1) 0)) ⌝ }
+{
+    let next = w + 1;
+    if wires <= next {
+        return true;
+    }
+    firsts[w] != firsts[next]
 }

@@ -9,7 +9,7 @@ use Rattle.sheet.specs.declared.Datum.{Datum}
 use Rattle.sheet.specs.declared.Cell.{Cell}
 use Rattle.kernel.specs.Values.{datumIn}
 use Rattle.kernel.specs.Order.{valueAt}
-use Rattle.kernel.specs.Reads.{wiresRead}
+use Rattle.sheet.specs.Reads.{wiresRead}
 use Rattle.kernel.specs.Instant.{Environment, under, value, stored}
 use Rattle.kernel.specs.Systems as System
 use Rattle.kernel.specs.declared.Value.{Value}

@@ -1,4 +1,3 @@
-pub mod Lists
 pub mod Pigeonhole
 pub mod Order
 pub mod Equality

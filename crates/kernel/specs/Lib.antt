@@ -1,9 +1,7 @@
 pub mod Values
 pub mod Order
 pub mod Equality
-pub mod Lists
 pub mod Operations
-pub mod Reads
 pub mod Instant
 pub mod Systems
 pub mod Instants

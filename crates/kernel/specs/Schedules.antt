@@ -11,7 +11,7 @@ use Rattle.sheet.specs.declared.Datum.{Datum}
 use Rattle.sheet.specs.declared.Cell.{Cell}
 use Rattle.sheet.specs.declared.Refusal.the-variants.{ScheduleLength, ScheduleEntry, ScheduleOrder}
 use Rattle.kernel.specs.Order.{allUnknown}
-use Rattle.kernel.specs.Lists.{among, allAmong, Every}
+use Rattle.sheet.specs.Lists.{among, allAmong, Every}
 use Rattle.kernel.specs.Instant.{under}
 use Rattle.kernel.specs.Instants.{wireCount, readsAt, valueOfWire}
 use Rattle.kernel.specs.declared.Value.{Value}

@@ -9,7 +9,7 @@ use Rattle.sheet.specs.Outcomes.{lowest}
 use Rattle.kernel.specs.Values.{IsKnown}
 use Rattle.kernel.specs.Order.{_⊑*_, valueAt, allUnknown}
 use Rattle.kernel.specs.Equality.{sameValues}
-use Rattle.kernel.specs.Lists.{among}
+use Rattle.sheet.specs.Lists.{among}
 use Rattle.kernel.specs.declared.Value.{Value}
 
 -- no wire is unknown

@@ -1,12 +1,11 @@
 -- Pieces put one after another are one piece, and what is put at the start of a buffer is the line that it holds.
-use Prim.Native.Nat.{ℕ, suc, _+_, _≤_, _<_}
+use Prim.Native.Nat.{ℕ, _+_, _≤_, _<_}
 use mathlib.Core.Path.{_≡_, ap, sym, _∙_}
 use mathlib.Core.List.{List, [], _∷_, _++_}
 use native.Mathlib.Omega.{arith}
-use native.Mathlib.Nat.{add-zero, add-suc, suc-add}
 use native.Mathlib.Numerals.{add-one}
 use lib.ListN.{length, take, drop, getD, set, length-append}
-use lib.Seq.{sets, sets-eq, length-sets, take-suc, take-all, take-at, length-take-le}
+use lib.Seq.{sets, sets-eq, length-sets, take-suc, take-all, take-at, drop-at, length-take-le}
 use Rattle.numbers.specs.Laws.{sets-append}
 use Rattle.lines.specs.Buffers.{Puts, Holds}
 
@@ -29,18 +28,12 @@ pub all : (l : List ℕ) (at : ℕ) (text after : List ℕ) (i : ℕ) → length
 all l at text after i g h e = record { placed = rw (take-all i text g) at e; passed = omega arith }
 
 -- a line put at the start of a buffer that has room for it
-whole : (before after line : List ℕ) (size : ℕ) → after ≡ sets before 0 line → size ≡ length line → size ≤ length before
-    → take size after ≡ line
-whole before after line size e s h =
-    rw (e, sets-eq line before 0 (omega arith)) (take-at line (drop (0 + length line) before) size (sym s))
-
-pub held : {before after line : List ℕ} {size : ℕ} → Puts before 0 line after size → size ≤ length before → Holds after size line
-held {before} {after} {line} {size} p h =
-    let sized : size ≡ length line = omega (arith, p .passed) in
-    let all = whole before after line size (p .placed) sized h in
+pub held : {before line after : List ℕ} {size : ℕ} → Puts before 0 line after size → size ≤ length before → Holds before line after size
+held {before} {line} {after} {size} p h =
+    let sized : length line ≡ size = omega (arith, p .passed) in
+    let parts : after ≡ line ++ drop (0 + length line) before = p .placed ∙ sets-eq line before 0 (omega arith) in
     record {
-      sized = sized;
-      held = all;
+      held = rw parts (take-at line (drop (0 + length line) before) size sized);
+      behind = rw parts (drop-at line (drop (0 + length line) before) size sized ∙ ap (λ n. drop n before) (sym (p .passed)));
       within = rw (p .placed, length-sets before 0 line) h;
-      counted = sized ∙ ap length (sym all);
     }

@@ -15,7 +15,7 @@ ghost use Rattle.lines.specs.Lines.{shortLine, refusedLine, sheetLine, l
 // The line of an input whose length bytes or sheet are incomplete.
 pub fn short_line(buffer: &mut [u8]) -> usize
     requires { ⌜ 256 ≤ length (now buffer) ⌝ }
-    ensures { λ r. ⌜ Holds (now (buffer .exit)) r shortLine ⌝ }
+    ensures { λ r. ⌜ Holds (now (buffer .entry)) shortLine (now (buffer .exit)) r ⌝ }
 {
     put_bytes(buffer, 0, b"short\n")
 }
@@ -23,7 +23,7 @@ pub fn short_line(buffer: &mut [u8]) -> usize
 // The line of a refused sheet or instant: the refusal's number and its place.
 pub fn refused_line(buffer: &mut [u8], number: u32, place: u32) -> usize
     requires { ⌜ 256 ≤ length (now buffer) ⌝ }
-    ensures { λ r. ⌜ Holds (now (buffer .exit)) r (refusedLine number place) ⌝ }
+    ensures { λ r. ⌜ Holds (now (buffer .entry)) (refusedLine number place) (now (buffer .exit)) r ⌝ }
 {
     let a = put_bytes(buffer, 0, b"refused");
     let b = put_spaced(buffer, a, number);
@@ -34,7 +34,7 @@ pub fn refused_line(buffer: &mut [u8], number: u32, place: u32) -> usize
 // The line of a sheet's four counts.
 pub fn sheet_line(buffer: &mut [u8], inputs: u32, wires: u32, outputs: u32, cells: u32) -> usize
     requires { ⌜ 256 ≤ length (now buffer) ⌝ }
-    ensures { λ r. ⌜ Holds (now (buffer .exit)) r (sheetLine inputs wires outputs cells) ⌝ }
+    ensures { λ r. ⌜ Holds (now (buffer .entry)) (sheetLine inputs wires outputs cells) (now (buffer .exit)) r ⌝ }
 {
     let a = put_bytes(buffer, 0, b"sheet");
     let b = put_spaced(buffer, a, inputs);
@@ -47,7 +47,7 @@ pub fn sheet_line(buffer: &mut [u8], inputs: u32, wires: u32, outputs: u32, cell
 // The line of the count of bytes not used.
 pub fn left_line(buffer: &mut [u8], left: u32) -> usize
     requires { ⌜ 256 ≤ length (now buffer) ⌝ }
-    ensures { λ r. ⌜ Holds (now (buffer .exit)) r (leftLine left) ⌝ }
+    ensures { λ r. ⌜ Holds (now (buffer .entry)) (leftLine left) (now (buffer .exit)) r ⌝ }
 {
     let a = put_bytes(buffer, 0, b"left");
     let b = put_spaced(buffer, a, left);
@@ -58,7 +58,7 @@ pub fn left_line(buffer: &mut [u8], left: u32) -> usize
 pub fn row_line(buffer: &mut [u8], instant: u32, output: &[u8]) -> usize
     requires { ⌜ 256 ≤ length (now buffer) ⌝ }
     requires { ⌜ length (now output) ≤ 64 ⌝ }
-    ensures { λ r. ⌜ Holds (now (buffer .exit)) r (rowLine instant (numbersOf (now (output .entry)))) ⌝ }
+    ensures { λ r. ⌜ Holds (now (buffer .entry)) (rowLine instant (numbersOf (now (output .entry)))) (now (buffer .exit)) r ⌝ }
 {
     let a = put_digits(buffer, 0, instant);
     let b = put_numbers(buffer, a, output);

@@ -9,7 +9,6 @@ use lib.ListN.{length, getD, length-replicate}
 use borrow.Author.Count.{below-more}
 use Rattle.wires.specs.Sets.{member, tally}
 use Rattle.wires.specs.Laws.{tally-beyond, tally-front}
-use Rattle.sheet.specs.Laws.Readings.{run-extent}
 use Rattle.kernel.specs.Order.{_⊑*_, valueAt, knownCount}
 use Rattle.kernel.specs.Order as Order
 use Rattle.kernel.specs.Systems as System
@@ -21,6 +20,7 @@ use Rattle.kernel.specs.Laws.Instants.{round-monotone}
 use Rattle.kernel.specs.Laws.Memory.{after-typed}
 use Rattle.kernel.specs.declared.Value.{Value}
 use Rattle.kernel.specs.declared.Value.the-variants.{Unknown}
+use Rattle.rounds.proofs.Wires.{wires-counted}
 use Rattle.rounds.specs.Running.{Held, unheld, held, Holds, Running, roundOf, Before}
 
 -- one for a wire in the set
@@ -44,7 +44,7 @@ held-count {n} {bits} {words} {values} h few =
     ∙ ap (tally (member bits)) (sym (h .size))
     ∙ each-counted (member bits) (λ w. getD words w 0) values (λ w l. h .each w (omega (arith, h .size)))
 
-module _ {s memory input types : List ℕ} {first : ℕ} (r : Running s memory input types first) where
+module _ {s memory input types places firsts : List ℕ} (r : Running s memory input types places firsts) where
   abbrev after : ℕ → List Value
   after = System.after (wireCount (r .given .sheet)) (roundOf r)
 
@@ -65,7 +65,7 @@ module _ {s memory input types : List ℕ} {first : ℕ} (r : Running s memory i
       let n = wireCount (r .given .sheet) in
       record {
         holds = record {
-          size = length-replicate n Unknown ∙ run-extent (r .inputs) types s 16 types first 0 (r .run) .sized;
+          size = length-replicate n Unknown ∙ wires-counted r;
           room = room;
           each = λ w l. rw (none w, unknown-at n w) unheld;
           beyond = λ w l. none w;
@@ -73,7 +73,7 @@ module _ {s memory input types : List ℕ} {first : ℕ} (r : Running s memory i
         changed = λ j l. absurd (omega arith);
       }
 
-  pub before : {k bits : ℕ} {words : List ℕ} → Rounded k bits words → Before s memory input types first bits words
+  pub before : {k bits : ℕ} {words : List ℕ} → Rounded k bits words → Before s memory input types places firsts bits words
   unfolding System.after
   before {k} h =
       record {
@@ -86,7 +86,7 @@ module _ {s memory input types : List ℕ} {first : ℕ} (r : Running s memory i
 
   -- One round more.
   module _ {k bits grown : ℕ} {words new : List ℕ} (h : Rounded k bits words)
-      (made : (b : Before s memory input types first bits words) → Holds (length types) grown new (roundOf (b .running) (b .values))) where
+      (made : (b : Before s memory input types places firsts bits words) → Holds (length types) grown new (roundOf (b .running) (b .values))) where
     next : Holds (length types) grown new (after (suc k))
     unfolding System.after before
     next = made (before h)

@@ -1,3 +1,4 @@
 -- What the proofs of several functions use.
+pub mod Wires
 pub mod Rounding
 pub mod Finishing

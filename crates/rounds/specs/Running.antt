@@ -12,6 +12,7 @@ use Rattle.sheet.specs.Rows.{entryAt}
 use Rattle.sheet.specs.Sheets.{sheetForms}
 use Rattle.sheet.specs.Typing.{WellTyped, ValidInputs, ValidMemory}
 use Rattle.sheet.specs.declared.Datum.{Datum}
+use Rattle.sheet_check.specs.Map.{StartsAt, runOf}
 use Rattle.kernel.specs.Values.{Fits}
 use Rattle.kernel.specs.Order.{valueAt, _⊑*_}
 use Rattle.kernel.specs.Instant.{inputAt}
@@ -22,13 +23,17 @@ use Rattle.kernel.specs.declared.Value.{Value}
 use Rattle.kernel.specs.declared.Value.the-variants.{Unknown, Known}
 use Rattle.expression.specs.Places.{CellsStand}
 
--- the bytes that passed the checks, with what they say: `types` are the wires' type bytes, and their expressions begin at `first`
-pub record Running (s memory input types : List ℕ) (first : ℕ) : Type 0 where
+-- the bytes that passed the checks, with what they say: `types` are the wires' type bytes, and the map says where each wire's expression
+-- starts and which cell is its first
+pub record Running (s memory input types places firsts : List ℕ) : Type 0 where
   pub given : Given
   pub inputs : List ℕ
+  pub first : ℕ
   pub next : ℕ
   pub count : ℕ
   pub run : readEach (readExpression inputs types s 16) types first 0 ≡ got (given .sheet .expressions) next count
+  pub starts : (w : ℕ) → w < length types
+      → StartsAt (runOf inputs types s first (given .sheet .expressions) next count run) w (getD places w 0) (getD firsts w 0)
   pub inputTypes : given .sheet .inputTypes ≡ map typeOfByte inputs
   pub wireTypes : given .sheet .wireTypes ≡ map typeOfByte types
   pub few : length types ≤ 64
@@ -40,7 +45,7 @@ pub record Running (s memory input types : List ℕ) (first : ℕ) : Type 0 wher
   pub validInputs : ValidInputs (given .sheet) (given .inputs)
   pub validMemory : ValidMemory (given .sheet) (given .memory)
 
--- an unknown wire is not in the set; a known one is, and its word stands for its datum
+-- an unknown wire is not in the set, and its word is free: nobody reads it; a known one is in it, and its word stands for its datum
 pub data Held : Bool → ℕ → Value → Type 0 where
   unheld : {word : ℕ} → Held false word Unknown
   held : {word : ℕ} {d : Datum} → word ≡ wordOf d → Held true word (Known d)
@@ -53,12 +58,12 @@ pub record Holds (n bits : ℕ) (words : List ℕ) (values : List Value) : Type 
   pub beyond : (w : ℕ) → n ≤ w → member bits w ≡ false
 
 -- the round of what runs
-abbrev pub roundOf : {s memory input types : List ℕ} {first : ℕ} → Running s memory input types first → List Value → List Value
+abbrev pub roundOf : {s memory input types places firsts : List ℕ} → Running s memory input types places firsts → List Value → List Value
 roundOf r = round (r .given .sheet) (r .given .inputs) (r .given .memory)
 
 -- what runs, with the values before a round, which it makes grow
-pub record Before (s memory input types : List ℕ) (first bits : ℕ) (words : List ℕ) : Type 0 where
-  pub running : Running s memory input types first
+pub record Before (s memory input types places firsts : List ℕ) (bits : ℕ) (words : List ℕ) : Type 0 where
+  pub running : Running s memory input types places firsts
   pub values : List Value
   pub holds : Holds (length types) bits words values
   pub ascends : values ⊑* roundOf running values

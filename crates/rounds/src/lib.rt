@@ -3,6 +3,7 @@
 use expression::value;
 use kernel::Value;
 use sheet::data;
+use sheet_check::map;
 use wires::Wires;
 ghost use mathlib.Core.Path.{_≡_};
 ghost use Prim.Native.Nat.{_*_, _≤_, _<_};
@@ -31,25 +32,27 @@ pub fn put_value(worth: Value, wire: usize, known: Wires, words: &mut [u32; 64])
     }
 }
 
-// One round: all wires are worked out from the values before, in wire order; the set of known wires comes back, grown or the same.
+// One round: all wires are worked out from the values before, each where the map says; the set of known wires comes back, grown or the same.
 fn round(
     sheet: &[u8],
     memory: &[u8],
     input: &[u8],
     types: &[u8],
-    first: usize,
+    places: &[u16; 64],
+    firsts: &[u8; 64],
     known: Wires,
     words: &mut [u32; 64],
 ) -> Wires
-    requires { ⌜ Before (now sheet) (now memory) (now input) (now types) first (known .bits) (now words) ⌝ }
-    ensures { λ r. ⌜ ((b : Before (now (sheet .entry)) (now (memory .entry)) (now (input .entry)) (now (types .entry)) first (known .bits)
-        (now (words .entry))) → Holds (length (now (types .entry))) (r .bits) (now (words .exit)) (roundOf (b .running) (b .values))) ⌝ }
+    requires { ⌜ Before (now sheet) (now memory) (now input) (now types) (now places) (now firsts) (known .bits) (now words) ⌝ }
+    ensures { λ r. ⌜ ((b : Before (now (sheet .entry)) (now (memory .entry)) (now (input .entry)) (now (types .entry))
+        (now (places .entry)) (now (firsts .entry)) (known .bits) (now (words .entry)))
+        → Holds (length (now (types .entry))) (r .bits) (now (words .exit)) (roundOf (b .running) (b .values))) ⌝ }
 {
     let mut grown = Wires::none();
-    let mut at = first;
-    let mut cell = 0;
     let mut w = 0;
     while w < types.len() {
+        let at = map::place(places[w]);
+        let cell = map::first(firsts[w]);
         let v = value::value_expression(
             sheet,
             &input,
@@ -64,8 +67,6 @@ fn round(
         );
         let worth = v.value;
         grown = put_value(worth, w, grown, words);
-        at = v.next;
-        cell = v.cell;
         w += 1;
     }
     grown
@@ -77,11 +78,14 @@ pub fn finish(
     memory: &[u8],
     input: &[u8],
     types: &[u8],
-    first: usize,
+    places: &[u16; 64],
+    firsts: &[u8; 64],
     words: &mut [u32; 64],
 ) -> Finished
-    requires { ⌜ Running (now sheet) (now memory) (now input) (now types) first × (length (now types) ≤ length (now words)) ⌝ }
-    ensures { λ r. ⌜ ((run : Running (now (sheet .entry)) (now (memory .entry)) (now (input .entry)) (now (types .entry)) first)
+    requires { ⌜ Running (now sheet) (now memory) (now input) (now types) (now places) (now firsts)
+        × (length (now types) ≤ length (now words)) ⌝ }
+    ensures { λ r. ⌜ ((run : Running (now (sheet .entry)) (now (memory .entry)) (now (input .entry)) (now (types .entry)) (now (places .entry))
+        (now (firsts .entry)))
         → Holds (length (now (types .entry))) (r .known .bits) (now (words .exit))
         (finished (run .given .sheet) (run .given .inputs) (run .given .memory))
         × (r .rounds ≡ rounds (run .given .sheet) (run .given .inputs) (run .given .memory))) ⌝ }
@@ -89,7 +93,7 @@ pub fn finish(
     let mut known = Wires::none();
     let mut rounds = 0;
     loop {
-        let grown = round(sheet, memory, input, types, first, known, words);
+        let grown = round(sheet, memory, input, types, places, firsts, known, words);
         let made = rounds + 1;
         if grown.count() == known.count() {
             return Finished {

@@ -9,19 +9,16 @@ use lib.Dec.{eqb, ltb}
 use lib.ListN.{length, take}
 use lib.Seq.{take-suc}
 use borrow.Author.Tests.{eq-eqb, ne-eqb, eqb-true, lt-ltb, le-ltb, ltb-true, not-false}
-use Rattle.sheet.specs.Outcomes.{Outcome, result, lowest, unlessLength, unlessAny}
+use Rattle.sheet.specs.Outcomes.{result, lowest, unlessLength, unlessAny}
 use Rattle.sheet.specs.Sheets.{Sheet}
 use Rattle.sheet.specs.Laws.Lowest.{lowest-first}
-use Rattle.sheet.specs.Laws.Readings.{run-extent}
-use Rattle.sheet.specs.declared.Refusal.{Refusal}
 use Rattle.sheet.specs.declared.Refusal.the-variants.{ScheduleLength, ScheduleEntry, ScheduleOrder}
-use Rattle.sheet_walk.specs.Starts.{WiresRead}
+use Rattle.sheet_check.specs.Map.{HoldsJust}
 use Rattle.wires.specs.Sets.{member, TestsWithin}
-use Rattle.kernel.specs.Lists.{among, allAmong}
-use Rattle.kernel.specs.Laws.Lists.{both, neither, among-append}
+use Rattle.sheet.specs.Lists.{among, allAmong}
+use Rattle.sheet.specs.Laws.Lists.{both, neither, among-append}
 use Rattle.kernel.specs.Instants.{readsAt}
 use Rattle.kernel.specs.Schedules.{entryAt, notNew, tooEarly, scheduleOf}
-use Rattle.schedule.specs.Reads.{HoldsJust}
 use Rattle.schedule.specs.Orders.{orderedAnswer}
 use Rattle.schedule.specs.declared.Ordered.the-variants.{Refused, Passed}
 
@@ -98,38 +95,27 @@ module _ (list : List ℕ) where
   unfolding tooEarly
   early readsOf p {answer = answer} holds reads test = ap not (within-among answer reads (holds .just) test)
 
-module _ {s : List ℕ} {wires at : ℕ} (run : WiresRead s wires at) where
-  -- the outcome by the count of the wires and the expressions that read
-  abbrev outcome : List ℕ → Outcome (List ℕ)
-  outcome list =
-      unlessLength ScheduleLength (length list) wires
-      (unlessAny ScheduleEntry (notNew list wires) wires
-      (unlessAny ScheduleOrder (tooEarly list (readsAt (run .trees))) wires
-      (result list)))
+-- the code's answers, by the count of the wires
+module _ (sheet : Sheet) (list : List ℕ) (wires : ℕ) (are : length (sheet .expressions) ≡ wires) where
+  abbrev readsOf : ℕ → List ℕ
+  readsOf = readsAt (sheet .expressions)
 
-  -- the code's answers
-  module _ (sheet : Sheet) (list : List ℕ) (are : sheet .expressions ≡ run .trees) where
-    outcome-is : scheduleOf sheet list ≡ outcome list
-    unfolding scheduleOf
-    outcome-is =
-        let sized = run-extent (run .inputs) (run .types) s 16 (run .types) at 0 (run .reads) .sized in
-        rw (are, sized ∙ run .sized)
+  outcome-is : scheduleOf sheet list ≡ unlessLength ScheduleLength (length list) wires
+      (unlessAny ScheduleEntry (notNew list wires) wires (unlessAny ScheduleOrder (tooEarly list readsOf) wires (result list)))
+  unfolding scheduleOf
+  outcome-is = rw are
 
-    pub refused-17 : (length list ≡ wires → ⊥) → Refused ScheduleLength 0 ≡ orderedAnswer (scheduleOf sheet list)
-    refused-17 other = rw (outcome-is, ne-eqb (length list) wires other)
+  pub refused-17 : (length list ≡ wires → ⊥) → Refused ScheduleLength 0 ≡ orderedAnswer (scheduleOf sheet list)
+  refused-17 other = rw (outcome-is, ne-eqb (length list) wires other)
 
-    module _ (sized : length list ≡ wires) {entry : ℕ} (first : entry ≡ lowest (notNew list wires) wires) where
-      pub refused-18 : entry < wires → Refused ScheduleEntry entry ≡ orderedAnswer (scheduleOf sheet list)
-      refused-18 below = rw (outcome-is, eq-eqb (length list) wires sized, ← first, lt-ltb entry wires below)
+  module _ (sized : length list ≡ wires) {entry : ℕ} (first : entry ≡ lowest (notNew list wires) wires) where
+    pub refused-18 : entry < wires → Refused ScheduleEntry entry ≡ orderedAnswer (scheduleOf sheet list)
+    refused-18 below = rw (outcome-is, eq-eqb (length list) wires sized, ← first, lt-ltb entry wires below)
 
-      module _ (none : wires ≤ entry) {early : ℕ} (low : early ≡ lowest (tooEarly list (readsAt (run .trees))) wires) where
-        pub refused-19 : early < wires → Refused ScheduleOrder early ≡ orderedAnswer (scheduleOf sheet list)
-        refused-19 below =
-            rw (outcome-is, eq-eqb (length list) wires sized, ← first, le-ltb entry wires none, ← low, lt-ltb early wires below)
+    module _ (none : wires ≤ entry) {early : ℕ} (low : early ≡ lowest (tooEarly list readsOf) wires) where
+      pub refused-19 : early < wires → Refused ScheduleOrder early ≡ orderedAnswer (scheduleOf sheet list)
+      refused-19 below =
+          rw (outcome-is, eq-eqb (length list) wires sized, ← first, le-ltb entry wires none, ← low, lt-ltb early wires below)
 
-        pub passed : wires ≤ early → Passed ≡ orderedAnswer (scheduleOf sheet list)
-        passed past = rw (outcome-is, eq-eqb (length list) wires sized, ← first, le-ltb entry wires none, ← low, le-ltb early wires past)
-
--- a refusal is not a pass
-pub not-passed : {A : Type 0} {why : Refusal} {place : ℕ} → Refused why place ≡ Passed → A
-not-passed e = absurd (let z : _≡_ {A = ℕ} 0 1 = cc in omega arith)
+      pub passed : wires ≤ early → Passed ≡ orderedAnswer (scheduleOf sheet list)
+      passed past = rw (outcome-is, eq-eqb (length list) wires sized, ← first, le-ltb entry wires none, ← low, le-ltb early wires past)

@@ -1,55 +1,21 @@
-// The checks 17 to 19 of a schedule. Rests on `reads` for what a wire reads within the instant, and on the set of wires.
+// The checks 17 to 19 of a schedule. Rests on the set of wires, and on `sheet_check` for the map of a sheet.
 use sheet::Refusal;
 use wires::Wires;
-
-pub mod reads;
-
 ghost use mathlib.Core.Path.{_≡_};
 ghost use mathlib.Core.List.{List};
 ghost use Prim.Native.Nat.{ℕ, _<_, _≤_};
 ghost use lib.ListN.{length, getD};
 ghost use Rattle.sheet.specs.Outcomes.{lowest};
 ghost use Rattle.sheet.specs.Sheets.{Sheet};
-ghost use Rattle.sheet_walk.specs.Starts.{WiresRead, StartsAt};
+ghost use Rattle.sheet_check.specs.Map.{HoldsJust};
+ghost use Rattle.kernel.specs.Instants.{readsAt};
 ghost use Rattle.kernel.specs.Schedules.{entryAt, notNew, tooEarly, scheduleOf};
-ghost use Rattle.schedule.specs.Reads.{HoldsJust};
-ghost use Rattle.schedule.specs.Orders.{Noted, orderedAnswer};
-ghost use Rattle.schedule.specs.declared.Ordered.the-variants.{Passed};
+ghost use Rattle.schedule.specs.Orders.{orderedAnswer};
 
 // What the checks of a schedule answer.
 pub enum Ordered {
     Refused { why: Refusal, place: usize },
     Passed,
-}
-
-// Notes of each wire, in wire order, where its expression starts, the number of its first cell, and the set of the wires that it
-// reads within the instant.
-fn note_wires(
-    sheet: &[u8],
-    wires: usize,
-    at: usize,
-    places: &mut [usize],
-    firsts: &mut [usize],
-    reads: &mut [u64],
-)
-    requires { ⌜ (wires ≤ 64) × WiresRead (now sheet) wires at
-        × (wires ≤ length (now places)) × (wires ≤ length (now firsts)) × (wires ≤ length (now reads)) ⌝ }
-    ensures { λ _. ⌜ ((run : WiresRead (now (sheet .entry)) wires at) (w : ℕ) → w < wires
-        → Noted run w (getD (now (places .exit)) w 0) (getD (now (firsts .exit)) w 0) (getD (now (reads .exit)) w 0)) ⌝ }
-{
-    let mut next = at;
-    let mut count = 0;
-    let mut w = 0;
-    while w < wires {
-        places[w] = next;
-        firsts[w] = count;
-        let found = reads::reads_of(sheet, next, count, Wires::none());
-        let set = found.reads;
-        reads[w] = set.bits;
-        next = found.next;
-        count = found.cell;
-        w += 1;
-    }
 }
 
 // The first position whose entry is none of the wires or was named before; the count of the wires where there is none.
@@ -95,21 +61,12 @@ fn first_too_early(list: &[u8], wires: usize, reads: &[u64; 64]) -> usize
     p
 }
 
-// The checks of `list` as a schedule of the wires whose expressions read from `first` on. Where it passes, it is noted of each wire
-// where its expression starts, and behind how many cells.
-pub fn check_schedule(
-    sheet: &[u8],
-    list: &[u8],
-    wires: usize,
-    first: usize,
-    places: &mut [usize; 64],
-    firsts: &mut [usize; 64],
-) -> Ordered
-    requires { ⌜ (wires ≤ 64) × WiresRead (now sheet) wires first ⌝ }
-    ensures { λ r. ⌜ ((run : WiresRead (now (sheet .entry)) wires first) (s : Sheet)
-        → s .expressions ≡ run .trees → r ≡ orderedAnswer (scheduleOf s (now (list .entry)))) ⌝ }
-    ensures { λ r. ⌜ ((run : WiresRead (now (sheet .entry)) wires first) → r ≡ Passed → (w : ℕ) → w < wires
-        → StartsAt run w (getD (now (places .exit)) w 0) (getD (now (firsts .exit)) w 0)) ⌝ }
+// The checks of `list` as a schedule of wires, each of which reads within the instant what its set holds.
+pub fn check_schedule(list: &[u8], wires: usize, reads: &[u64; 64]) -> Ordered
+    requires { ⌜ wires ≤ 64 ⌝ }
+    ensures { λ r. ⌜ ((s : Sheet) → length (s .expressions) ≡ wires
+        → ((w : ℕ) → w < wires → HoldsJust (getD (now (reads .entry)) w 0) (readsAt (s .expressions) w))
+        → r ≡ orderedAnswer (scheduleOf s (now (list .entry)))) ⌝ }
 {
     if list.len() != wires {
         return Ordered::Refused {
@@ -124,9 +81,7 @@ pub fn check_schedule(
             place: entry,
         };
     }
-    let mut reads = [0u64; 64];
-    note_wires(sheet, wires, first, places, firsts, &mut reads);
-    let early = first_too_early(list, wires, &reads);
+    let early = first_too_early(list, wires, reads);
     if early < wires {
         return Ordered::Refused {
             why: Refusal::ScheduleOrder,

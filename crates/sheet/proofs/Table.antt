@@ -1,63 +1,61 @@
--- What holds of every row of the table of kinds.
-use Prim.Native.Nat.{ℕ, zero, suc, _≤_, _<_}
+-- What holds of the rows of the table of kinds, by tests that antt computes.
+use Prim.Native.Nat.{ℕ, zero, suc, _%_, _≤_, _<_}
 use native.Mathlib.Omega.{arith}
-use mathlib.Core.Bool.{Bool, true, false, _&&_}
+use mathlib.Core.Bool.{Bool, true, _&&_}
 use mathlib.Core.Path.{_≡_, refl}
-use mathlib.Core.List.{[], _∷_, map}
+use mathlib.Core.List.{[], _∷_}
 use lib.ListN.{getD, take}
-use lib.Dec.{T, leb, leb→le, eqb}
-use borrow.Author.Tests.{eqb-true, eqb-false}
-use Rattle.sheet.specs.Kinds.{kinds, operands, cellsOf, countOf, typed, operandsOf, digitOf}
-use Rattle.sheet.specs.Laws.Readings.{every-kind, kinds-between, _▸_, end}
+use lib.Dec.{leb, eqb}
+use borrow.Author.Count.{below-more}
+use borrow.Author.Tests.{eqb-true, leb-true}
+use Rattle.sheet.specs.Kinds.{kindCount, cellsOf, countOf, operandsOf, digitOf, operandTypeIn}
+use Rattle.sheet.specs.Laws.Lists.{both}
+use Rattle.sheet.specs.Laws.Readings.{kinds-between, _▸_, end}
 
--- the first operand's type and that of every later one, as the code's arrays have them
-abbrev pub firstOf : ℕ → ℕ
-firstOf k = getD (map (λ r. getD (operands r) 0 0) kinds) k 0
+-- the test passes at every number below n
+unfoldable pub passes : (ℕ → Bool) → ℕ → Bool
+passes test zero = true
+passes test (suc n) = test n && passes test n
 
-abbrev pub laterOf : ℕ → ℕ
-laterOf k = getD (map (λ r. getD (operands r) 1 0) kinds) k 0
-
--- a row has no more than three operands and one cell
-pub row-bounds : (k : ℕ) → k < 18 → (countOf k ≤ 3) × (cellsOf k ≤ 1)
-row-bounds k l =
-    let both = every-kind (λ k. T (leb (countOf k) 3) × T (leb (cellsOf k) 1))
-    (h ▸ h ▸ h ▸ h ▸ h ▸ h ▸ h ▸ h ▸ h ▸ h ▸ h ▸ h ▸ h ▸ h ▸ h ▸ h ▸ h ▸ h ▸ end) k l in
-    (leb→le (countOf k) 3 (both .0), leb→le (cellsOf k) 1 (both .1))
-  where
-    h : Unit {0} × Unit {0}
-    h = (tt, tt)
-
--- the code's three types, cut to the operands there are, are the table's
-pub operands-are : (t k : ℕ) → k < 18
-    → take (countOf k) (typed t (firstOf k) ∷ typed t (laterOf k) ∷ typed t (laterOf k) ∷ []) ≡ operandsOf k t
-unfolding operandsOf
-operands-are t =
-    every-kind (λ k. take (countOf k) (typed t (firstOf k) ∷ typed t (laterOf k) ∷ typed t (laterOf k) ∷ []) ≡ operandsOf k t)
-    (refl ▸ refl ▸ refl ▸ refl ▸ refl ▸ refl ▸ refl ▸ refl ▸ refl ▸ refl ▸ refl ▸ refl ▸ refl ▸ refl ▸ refl ▸ refl ▸ refl ▸ refl ▸ end)
-
--- and where they are an operation's, the first is that of all
-pub operation-operands : (t k : ℕ) → 4 ≤ k → k < 12 → take (countOf k) (firstOf k ∷ firstOf k ∷ []) ≡ operandsOf k t
-unfolding operandsOf
-operation-operands t = kinds-between (λ k. take (countOf k) (firstOf k ∷ firstOf k ∷ []) ≡ operandsOf k t)
-    (refl ▸ refl ▸ refl ▸ refl ▸ refl ▸ refl ▸ refl ▸ refl ▸ end)
-
--- two columns are the same up to row n
-unfoldable pub sameColumn : (ℕ → ℕ) → (ℕ → ℕ) → ℕ → Bool
-sameColumn f g zero = true
-sameColumn f g (suc n) = eqb (f n) (g n) && sameColumn f g n
-
-same-at : (f g : ℕ → ℕ) (n : ℕ) → sameColumn f g n ≡ true → (k : ℕ) → k < n → f k ≡ g k
-unfolding sameColumn
-same-at f g zero e k l = absurd (omega arith)
-same-at f g (suc n) e k l = go (eqb (f n) (g n)) refl (sameColumn f g n) refl e (eqb k n) refl (same-at f g n)
-  where
-    go : (t : Bool) → eqb (f n) (g n) ≡ t → (u : Bool) → sameColumn f g n ≡ u → (t && u) ≡ true → (b : Bool) → eqb k n ≡ b
-        → (sameColumn f g n ≡ true → (k : ℕ) → k < n → f k ≡ g k) → f k ≡ g k
-    go false p u q e b r rest = cc
-    go true p false q e b r rest = cc
-    go true p true q e true r rest = rw (eqb-true k n r) (eqb-true (f n) (g n) p)
-    go true p true q e false r rest = let other = eqb-false k n r in rest q k (omega arith)
+pub passes-at : (test : ℕ → Bool) (n : ℕ) → passes test n ≡ true → (k : ℕ) → k < n → test k ≡ true
+unfolding passes
+passes-at test zero e k l = absurd (omega arith)
+passes-at test (suc n) e k l =
+    let (last, rest) = both (test n) (passes test n) e in
+    below-more (λ k. test k ≡ true) n (passes-at test n rest) last k (omega arith)
 
 -- a number whose octal digits are a column of the table
-pub column-is : (column : ℕ) (f : ℕ → ℕ) → sameColumn (digitOf column) f 18 ≡ true → (k : ℕ) → k < 18 → digitOf column k ≡ f k
-column-is column f e = same-at (digitOf column) f 18 e
+abbrev pub isColumn : ℕ → (ℕ → ℕ) → Bool
+isColumn column f = passes (λ k. eqb (digitOf column k) (f k)) kindCount
+
+pub column-is : (column : ℕ) (f : ℕ → ℕ) → isColumn column f ≡ true → (k : ℕ) → k < kindCount → digitOf column k ≡ f k
+column-is column f e k l = eqb-true _ _ (passes-at (λ k. eqb (digitOf column k) (f k)) kindCount e k l)
+
+-- a row has no more than three operands and one cell
+pub row-bounds : (k : ℕ) → k < kindCount → (countOf k ≤ 3) × (cellsOf k ≤ 1)
+unfolding passes
+row-bounds k l =
+    let (operands, cells) = both _ _ (passes-at (λ k. leb (countOf k) 3 && leb (cellsOf k) 1) kindCount refl k l) in
+    (leb-true _ _ operands, leb-true _ _ cells)
+
+-- a number whose octal digits hold the types asked of the operands where `asked` is asked of the whole
+module _ (column asked : ℕ) where
+  abbrev isAsked : ℕ → ℕ → Bool
+  isAsked k i = eqb (operandTypeIn (digitOf column k) i) (getD (operandsOf k asked) i 0)
+
+  abbrev pub areAsked : Bool
+  areAsked = passes (λ k. passes (isAsked k) (countOf k)) kindCount
+
+  pub asked-are : areAsked ≡ true → (k : ℕ) → k < kindCount
+      → (i : ℕ) → i < countOf k → operandTypeIn (digitOf column k) i ≡ getD (operandsOf k asked) i 0
+  asked-are e k l i within =
+      eqb-true _ _ (passes-at (isAsked k) (countOf k) (passes-at (λ k. passes (isAsked k) (countOf k)) kindCount e k l) i within)
+
+-- the type of every operand of an operation, which is that of its first where a number is asked of the whole
+abbrev operationType : ℕ → ℕ
+operationType k = digitOf 0o310266333300100000 k % 2
+
+pub operation-operands : (t k : ℕ) → 4 ≤ k → k < 12 → take (countOf k) (operationType k ∷ operationType k ∷ []) ≡ operandsOf k t
+unfolding operandsOf
+operation-operands t = kinds-between (λ k. take (countOf k) (operationType k ∷ operationType k ∷ []) ≡ operandsOf k t)
+    (refl ▸ refl ▸ refl ▸ refl ▸ refl ▸ refl ▸ refl ▸ refl ▸ end)

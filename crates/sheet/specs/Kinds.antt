@@ -1,9 +1,10 @@
 -- Document 01's table of kinds, a row to a kind: bytes of body, cells owned, types of the operands, own type, and the tree.
 use Prim.Native.Nat.{ℕ, _*_, _/_, _%_, _^_}
+use mathlib.Core.Path.{_≡_, refl}
 use mathlib.Core.Bool.{false, cond}
 use mathlib.Core.List.{List, [], _∷_, map}
 use lib.ListN.{length, getD}
-use lib.Dec.{eqb}
+use lib.Dec.{eqb, ltb}
 use Rattle.sheet.specs.Data.{ValueType, datumOf}
 use Rattle.sheet.specs.Expressions.{Expression, constant, wire, input, unary, binary, choose, reset, pre, fby}
 use Rattle.sheet.specs.Expressions.{negation, negative, conditional, present}
@@ -79,6 +80,13 @@ kinds =
     ∷ kind 0 1 (asked ∷ asked ∷ []) asked fby-of  -- 17 fby
     ∷ []
 
+-- how many kinds there are
+abbrev pub kindCount : ℕ
+kindCount = 18
+
+kinds-counted : length kinds ≡ kindCount
+kinds-counted = refl
+
 abbrev pub body : Kind → ℕ
 body (kind b c os t m) = b
 
@@ -104,6 +112,11 @@ cellsOf k = getD (map cells kinds) k 0
 abbrev pub countOf : ℕ → ℕ
 countOf k = getD (map (λ r. length (operands r)) kinds) k 0
 
+-- how many of the operands, from the first on, are read within the instant: of an owner of a cell, a pre reads none, and an fby, which
+-- has no body, its left side; of any other kind all
+abbrev pub readCountOf : ℕ → ℕ
+readCountOf k = cond (eqb (cellsOf k) 0) (countOf k) (cond (eqb (bodyOf k) 0) 1 0)
+
 abbrev pub ownTypeOf : ℕ → ℕ
 ownTypeOf k = getD (map type kinds) k 0
 
@@ -126,6 +139,10 @@ limitOf inputs wires k = cond (eqb (ownTypeOf k) named-wire) (length wires) (con
 abbrev pub foundOf : List ℕ → List ℕ → ℕ → ℕ → ℕ → ℕ
 foundOf inputs wires t k n =
     cond (eqb (ownTypeOf k) named-wire) (getD wires n 0) (cond (eqb (ownTypeOf k) named-input) (getD inputs n 0) (typed t (ownTypeOf k)))
+
+-- the type of operand i among the types that the code holds as one number: a bit to the first, one to the second, one to all later ones
+abbrev pub operandTypeIn : (types i : ℕ) → ℕ
+operandTypeIn types i = types / 2 ^ cond (ltb i 2) i 2 % 2
 
 -- the octal digit at place k of a number: how the code holds a column of the table
 abbrev pub digitOf : ℕ → ℕ → ℕ

@@ -1,6 +1,8 @@
+pub mod Lists
 pub mod Lowest
 pub mod Outcomes
 pub mod Readings
+pub mod Reads
 pub mod Headers
 pub mod Typing
 pub mod Memory

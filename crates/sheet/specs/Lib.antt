@@ -1,6 +1,8 @@
 pub mod Data
 pub mod Outcomes
 pub mod Expressions
+pub mod Lists
+pub mod Reads
 pub mod Kinds
 pub mod Readings
 pub mod Headers

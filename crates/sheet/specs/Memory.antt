@@ -5,7 +5,8 @@ use mathlib.Core.List.{List, [], _∷_, _++_, map}
 use lib.ListN.{length, getD}
 use lib.Dec.{eqb}
 use Rattle.numbers.specs.Words.{wordAt, wordBytes}
-use Rattle.sheet.specs.Data.{ValueType, boolean, number, standsFor, datumOf, wordOf}
+use Rattle.sheet.specs.Data.{ValueType, boolean, number, typeOfByte, standsFor, datumOf, wordOf}
+use Rattle.sheet.specs.Kinds.{bodyOf, ownTypeOf}
 use Rattle.sheet.specs.Expressions.{CellForm, fbyCell}
 use Rattle.sheet.specs.Outcomes.{Outcome, refusal, result, followedBy, holdsAfter, unlessLength, unlessAny, packedRefusal}
 use Rattle.sheet.specs.Sheets.{sheetForms, sheetOf}
@@ -74,6 +75,10 @@ memoryOf forms memory =
 -- each cell as it is at the start
 unfoldable pub startMemory : List CellForm → List Cell
 startMemory = map (λ f. f .start)
+
+-- the cell that an expression of kind k owns, as it is at the start, by the number in its body: an fby has no body
+abbrev pub ownCell : (k body : ℕ) → Cell
+ownCell k body = cond (eqb (bodyOf k) 0) NotStarted (Started (datumOf (typeOfByte (ownTypeOf k)) body))
 
 -- the start: the bytes of the starting memory, or 1 to 12
 unfoldable pub startOutcome : (s memory : List ℕ) → Outcome (List ℕ)

@@ -7,7 +7,7 @@ use lib.Dec.{ltb, leb, eqb}
 use Rattle.numbers.specs.Words.{wordAt}
 use Rattle.sheet.specs.Data.{typeOfByte}
 use Rattle.sheet.specs.Expressions.{Expression}
-use Rattle.sheet.specs.Kinds.{bodyOf, cellsOf, operandsOf, limitOf, foundOf, meaningOf}
+use Rattle.sheet.specs.Kinds.{bodyOf, cellsOf, operandsOf, limitOf, foundOf, meaningOf, kindCount}
 use Rattle.sheet.specs.declared.Refusal.{Refusal}
 use Rattle.sheet.specs.declared.Refusal.the-variants.{Cut, Kind, Body, Level, TypeAsked, CellLimit}
 use Rattle.sheet.specs.declared.Read.{Read}
@@ -38,7 +38,7 @@ readEach read (t ∷ ts) at c = andThen (read t at c) (λ e n k. andThen (readEa
 
 -- the expression at a place has a kind of the table and its whole body
 pub record Whole (s : List ℕ) (at : ℕ) : Type 0 where
-  pub kind : getD s at 0 < 18
+  pub kind : getD s at 0 < kindCount
   pub ends : at + 1 + bodyOf (getD s at 0) ≤ length s
 
 -- the number that a body of one byte holds; 0 where the body is another
@@ -67,7 +67,7 @@ module _ (inputs wires s : List ℕ) where
   unfoldable pub ownOf : (level t at c : ℕ) → Read
   ownOf level t at c =
       cond (leb (length s) at) (Refused Cut (length s))
-      (cond (leb 18 (getD s at 0)) (Refused Kind at)
+      (cond (leb kindCount (getD s at 0)) (Refused Kind at)
       (cond (eqb level 0) (Refused Level at)
       (bodyFrom t at c)))
 

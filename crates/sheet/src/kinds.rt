@@ -3,18 +3,19 @@
 ghost use mathlib.Core.Path.{_≡_};
 ghost use Prim.Native.Nat.{ℕ, _≤_, _<_};
 ghost use mathlib.Core.List.{[], _∷_};
-ghost use lib.ListN.{take};
-ghost use Rattle.sheet.specs.Kinds.{bodyOf, cellsOf, countOf, ownTypeOf, typed, operandsOf, limitOf, foundOf, digitOf};
+ghost use lib.Dec.{eqb};
+ghost use lib.ListN.{take, getD};
+ghost use Rattle.sheet.specs.Kinds.{kindCount, bodyOf, cellsOf, countOf, readCountOf, ownTypeOf, typed, operandsOf};
+ghost use Rattle.sheet.specs.Kinds.{digitOf, operandTypeIn};
+
+// How many kinds there are.
+pub const COUNT: u8 = 18;
 
 // A type is 0 for a Boolean or 1 for a number; or, in the table alone, the type asked, the named wire's or the named input's.
 const ASKED: u8 = 4;
 
-const WIRE: u8 = 5;
-
-const INPUT: u8 = 6;
-
 // The columns, each a number with one octal digit to a kind, that of kind 0 last, so that a digit is found by a shift: bytes of
-// body, cells owned, own type, count of operands, the type of the first operand and that of every later one.
+// body, cells owned, own type, count of operands, and how many of them are read within the instant.
 const BODIES: u64 = 0o041000000000001141;
 
 const CELLS: u64 = 0o111000000000000000;
@@ -23,13 +24,17 @@ const OWN_TYPES: u64 = 0o410444001100106510;
 
 const OPERANDS: u64 = 0o211233222222110000;
 
-const FIRST: u64 = 0o410000111100100000;
+const READ_OPERANDS: u64 = 0o100233222222110000;
 
-const LATER: u64 = 0o400444111100000000;
+// The types asked of the operands, where a Boolean is asked of the whole and where a number is: 1 where the first is a number, plus 2
+// where the second is, plus 4 where every later one is.
+const WHERE_BOOLEAN: u64 = 0o010000333300100000;
+
+const WHERE_NUMBER: u64 = 0o310266333300100000;
 
 // The digit of a column for a kind.
 fn digit(column: u64, kind: u8) -> u8
-    requires { ⌜ kind < 18 ⌝ }
+    requires { ⌜ kind < kindCount ⌝ }
     ensures { λ r. ⌜ r ≡ digitOf column kind ⌝ }
 {
     ((column >> (3 * (kind as u32))) % 8) as u8
@@ -37,7 +42,7 @@ fn digit(column: u64, kind: u8) -> u8
 
 // How many bytes of body follow the kind byte.
 pub fn body(kind: u8) -> usize
-    requires { ⌜ kind < 18 ⌝ }
+    requires { ⌜ kind < kindCount ⌝ }
     ensures { λ r. ⌜ r ≡ bodyOf kind ⌝ }
 {
     digit(BODIES, kind) as usize
@@ -45,7 +50,7 @@ pub fn body(kind: u8) -> usize
 
 // How many cells an expression of this kind owns, besides its operands'.
 pub fn cells(kind: u8) -> usize
-    requires { ⌜ kind < 18 ⌝ }
+    requires { ⌜ kind < kindCount ⌝ }
     ensures { λ r. ⌜ r ≡ cellsOf kind ⌝ }
 {
     digit(CELLS, kind) as usize
@@ -53,35 +58,55 @@ pub fn cells(kind: u8) -> usize
 
 // The type of an expression of this kind, as the table gives it.
 pub fn own_type(kind: u8) -> u8
-    requires { ⌜ kind < 18 ⌝ }
+    requires { ⌜ kind < kindCount ⌝ }
     ensures { λ r. ⌜ r ≡ ownTypeOf kind ⌝ }
 {
     digit(OWN_TYPES, kind)
 }
 
+// Whether an expression of this kind has the type asked, unless it has that of what it names.
+pub fn fits(kind: u8, asked: u8) -> bool
+    requires { ⌜ kind < kindCount ⌝ }
+    ensures { λ r. ⌜ r ≡ eqb (typed asked (ownTypeOf kind)) asked ⌝ }
+{
+    let code = own_type(kind);
+    (code == asked) | (code == ASKED)
+}
+
 // How many operands follow the body.
 pub fn operands(kind: u8) -> usize
-    requires { ⌜ kind < 18 ⌝ }
+    requires { ⌜ kind < kindCount ⌝ }
     ensures { λ r. ⌜ r ≡ countOf kind ⌝ }
 {
     digit(OPERANDS, kind) as usize
 }
 
-// A type of the table where `asked` is asked.
-fn typed_as(code: u8, asked: u8) -> u8
-    ensures { λ r. ⌜ r ≡ typed asked code ⌝ }
+// How many of the operands, from the first on, are read within the instant.
+pub fn read_operands(kind: u8) -> usize
+    requires { ⌜ kind < kindCount ⌝ }
+    ensures { λ r. ⌜ r ≡ readCountOf kind ⌝ }
 {
-    if code == ASKED { asked } else { code }
+    digit(READ_OPERANDS, kind) as usize
 }
 
-// The types asked of the operands where `asked` is asked of the whole, of which only as many count as there are operands.
-pub fn operand_types(kind: u8, asked: u8) -> [u8; 3]
-    requires { ⌜ kind < 18 ⌝ }
-    ensures { λ r. ⌜ take (countOf kind) r ≡ operandsOf kind asked ⌝ }
+// The types asked of the operands where `asked` is asked of the whole, for `operand_type` to look up.
+pub fn operand_types(kind: u8, asked: u8) -> u8
+    requires { ⌜ (kind < kindCount) × (asked < 2) ⌝ }
+    ensures { λ r. ⌜ ((i : ℕ) → i < countOf kind → operandTypeIn r i ≡ getD (operandsOf kind asked) i 0) ⌝ }
 {
-    let first = typed_as(digit(FIRST, kind), asked);
-    let later = typed_as(digit(LATER, kind), asked);
-    [first, later, later]
+    if asked == 0 {
+        digit(WHERE_BOOLEAN, kind)
+    } else {
+        digit(WHERE_NUMBER, kind)
+    }
+}
+
+// The type asked of operand i.
+pub fn operand_type(types: u8, i: usize) -> u8
+    ensures { λ r. ⌜ r ≡ operandTypeIn types i ⌝ }
+{
+    let place = if i < 2 { i } else { 2 };
+    (types >> place as u32) % 2
 }
 
 // The type asked of every operand of an operation, kinds 4 to 11, whatever is asked of the whole.
@@ -89,29 +114,5 @@ pub fn operation_type(kind: u8) -> u8
     requires { ⌜ (4 ≤ kind) × (kind < 12) ⌝ }
     ensures { λ r. ⌜ ((asked : ℕ) → take (countOf kind) (r ∷ r ∷ []) ≡ operandsOf kind asked) ⌝ }
 {
-    digit(FIRST, kind)
-}
-
-// What a body of one byte stays below: the count of the wires or inputs, of which it names one, or of the two Booleans.
-pub fn limit(kind: u8, inputs: &[u8], wires: &[u8]) -> usize
-    requires { ⌜ kind < 18 ⌝ }
-    ensures { λ r. ⌜ r ≡ limitOf (now (inputs .entry)) (now (wires .entry)) kind ⌝ }
-{
-    match own_type(kind) {
-        WIRE => wires.len(),
-        INPUT => inputs.len(),
-        _ => 2,
-    }
-}
-
-// The type of an expression that names `named`, where `asked` is asked.
-pub fn found_type(kind: u8, named: usize, asked: u8, inputs: &[u8], wires: &[u8]) -> u8
-    requires { ⌜ (kind < 18) × (named < limitOf (now inputs) (now wires) kind) ⌝ }
-    ensures { λ r. ⌜ r ≡ foundOf (now (inputs .entry)) (now (wires .entry)) asked kind named ⌝ }
-{
-    match own_type(kind) {
-        WIRE => wires[named],
-        INPUT => inputs[named],
-        code => typed_as(code, asked),
-    }
+    digit(WHERE_NUMBER, kind) % 2
 }

@@ -5,7 +5,6 @@ pub mod data;
 pub mod kinds;
 pub mod memory;
 pub mod refusals;
-pub mod rows;
 
 // What an input, a constant, a cell or a known wire holds.
 pub enum Datum {

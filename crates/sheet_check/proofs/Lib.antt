@@ -1,4 +1,7 @@
 -- What the proofs of several functions use.
 pub mod Steps
 pub mod Fields
-pub mod Forms
+pub mod Nodes
+pub mod Noting
+pub mod Locating
+pub mod Drawing

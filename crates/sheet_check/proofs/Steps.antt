@@ -7,10 +7,12 @@ use native.Mathlib.Omega.{arith}
 use lib.ListN.{length, getD, drop}
 use lib.Seq.{drop-cons}
 use Rattle.sheet.specs.Laws.Readings.{not-good}
-use Rattle.sheet.specs.Kinds.{operandsOf}
+use borrow.Author.Tests.{lt-leb, le-leb, eq-eqb, ne-eqb}
+use Rattle.sheet.specs.Kinds.{kindCount, operandsOf}
 use Rattle.sheet.specs.Expressions.{Expression}
-use Rattle.sheet.specs.Readings.{Reading, refused, got, erased, andThen, readEach, ownOf, readExpression}
+use Rattle.sheet.specs.Readings.{Reading, refused, got, erased, andThen, readEach, ownOf, bodyFrom, readExpression}
 use Rattle.sheet.specs.declared.Refusal.{Refusal}
+use Rattle.sheet.specs.declared.Refusal.the-variants.{Cut, Kind, Level}
 use Rattle.sheet.specs.declared.Read.the-variants.{Refused, Got}
 
 -- what is built of a reading is erased
@@ -51,6 +53,26 @@ module _ (inputs wires s : List ℕ) (t at c : ℕ) where
   unfolding readExpression
   own-refused zero e = rw e
   own-refused (suc l) e = rw e
+
+  -- 2, 6 and 8
+  pub own-missing : (level : ℕ) → length s ≤ at → ownOf inputs wires s level t at c ≡ Refused Cut (length s)
+  unfolding ownOf
+  own-missing level missing = rw (le-leb (length s) at missing)
+
+  pub own-unknown : (level : ℕ) → at < length s → kindCount ≤ getD s at 0 → ownOf inputs wires s level t at c ≡ Refused Kind at
+  unfolding ownOf
+  own-unknown level byte unknown = rw (lt-leb (length s) at byte, le-leb kindCount (getD s at 0) unknown)
+
+  pub own-deep : (level : ℕ) → at < length s → getD s at 0 < kindCount → level ≡ 0 → ownOf inputs wires s level t at c ≡ Refused Level at
+  unfolding ownOf
+  own-deep level byte kind deep = rw (lt-leb (length s) at byte, lt-leb kindCount (getD s at 0) kind, eq-eqb level 0 deep)
+
+  -- behind them comes the rest
+  pub own-passed : (level : ℕ) → at < length s → getD s at 0 < kindCount → 1 ≤ level
+      → ownOf inputs wires s level t at c ≡ bodyFrom inputs wires s t at c
+  unfolding ownOf
+  own-passed level byte kind levels =
+      rw (lt-leb (length s) at byte, lt-leb kindCount (getD s at 0) kind, ne-eqb level 0 (λ e. omega arith))
 
   -- behind good ones the operands' readings are the whole's
   pub by-operands : (level : ℕ) {n k : ℕ} → 1 ≤ level → ownOf inputs wires s level t at c ≡ Got n k

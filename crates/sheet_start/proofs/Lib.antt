@@ -1,3 +1,3 @@
--- What the pass over the expressions meets.
-pub mod Scanning
+-- The starting bytes, and a sheet that the check passes.
+pub mod Starting
 pub mod Passing

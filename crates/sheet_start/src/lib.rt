@@ -1,5 +1,5 @@
-// The start of a memory: one pass over the expressions of a sheet that passes the check puts every cell as it is at the start.
-// Rests on `check`, on `kinds` and `bodies` for what a pass meets, and on `data` and `memory` for the cells.
+// The start of a memory: each cell that the check of a sheet noted is put as it is at the start.
+// Rests on `check_map`, on `kinds` and `bodies` for the expression that owns a cell, and on `data` and `memory` for the cells.
 use sheet::Cell;
 use sheet::Checked;
 use sheet::Refusal;
@@ -9,52 +9,74 @@ use sheet::data;
 use sheet::kinds;
 use sheet::memory;
 ghost use mathlib.Core.Path.{_≡_};
-ghost use Prim.Native.Nat.{ℕ, _+_, _*_, _≤_};
-ghost use mathlib.Core.List.{List};
+ghost use mathlib.Core.Bool.{cond};
+ghost use Prim.Native.Nat.{_+_, _*_, _≤_};
 ghost use lib.ListN.{length, getD};
 ghost use lib.Seq.{sets};
 ghost use Rattle.sheet.specs.Readings.{bodyAt, Whole};
-ghost use Rattle.sheet.specs.Memory.{startCall};
-ghost use Rattle.sheet_start.specs.Scans.{ownCell, ownBytes, Scan, Fills};
+ghost use Rattle.sheet.specs.Memory.{memoryBytes, startMemory, ownCell, startCall};
+ghost use Rattle.sheet.specs.declared.Refusal.the-variants.{MemoryLength};
+ghost use Rattle.sheet.specs.declared.Started.the-variants.{Refused, Done};
+ghost use Rattle.sheet_start.specs.Owners.{ownBytes, Noted, Starts};
 
 // The start: the memory gets its starting cells, or it is left as it is where 1 to 12 refuse.
 pub fn start(sheet: &[u8], memory: &mut [u8]) -> Started
     ensures { λ r. ⌜ r ≡ startCall (now (sheet .entry)) (now (memory .entry)) .answer ⌝ }
     ensures { λ _. ⌜ now (memory .exit) ≡ startCall (now (sheet .entry)) (now (memory .entry)) .memory ⌝ }
 {
-    match sheet_check::check(sheet) {
+    let mut places = [0u16; 64];
+    let mut firsts = [0u8; 64];
+    let mut reads = [0u64; 64];
+    let mut cells = [0u16; 64];
+    match sheet_check::check_map(sheet, &mut places, &mut firsts, &mut reads, &mut cells) {
         Checked::Refused { why, place } => Started::Refused { why, place },
         Checked::Passed {
-            inputs,
-            wires,
-            outputs,
-            cells,
-        } => {
-            if memory.len() != 5 * cells {
-                return Started::Refused {
-                    why: Refusal::MemoryLength,
-                    place: 0,
-                };
-            }
-            fill(sheet, 3 + inputs + wires + outputs, memory);
-            Started::Done
-        }
+            inputs: _,
+            wires: _,
+            outputs: _,
+            cells: count,
+        } => start_cells(sheet, &cells, count, memory),
     }
 }
 
-// Puts every cell that is met from `first` on, and stops with the last: no cell is left in the tail of the sheet behind it.
-fn fill(sheet: &[u8], first: usize, memory: &mut [u8])
-    requires { ⌜ Fills (now sheet) first (length (now memory)) ⌝ }
-    ensures { λ _. ⌜ ((bytes : List ℕ) → Scan (now (sheet .entry)) first bytes → length bytes ≡ length (now (memory .entry))
-        → now (memory .exit) ≡ bytes) ⌝ }
+// The start of a sheet that passes the check: 12 where the memory has another length.
+fn start_cells(sheet: &[u8], cells: &[u16; 64], count: usize, memory: &mut [u8]) -> Started
+    requires { ⌜ Noted (now sheet) (now cells) count ⌝ }
+    ensures { λ r. ⌜ ((p : Noted (now (sheet .entry)) (now (cells .entry)) count)
+        → Starts (p .forms) (now (memory .entry)) r (now (memory .exit))) ⌝ }
 {
-    let mut at = first;
+    let sized = memory.len() == 5 * count;
+    if sized {
+        fill(sheet, cells, count, memory);
+    }
+    started(sized)
+}
+
+// Puts each of the cells, whose owners are noted, as it is at the start.
+fn fill(sheet: &[u8], cells: &[u16; 64], count: usize, memory: &mut [u8])
+    requires { ⌜ Noted (now sheet) (now cells) count ⌝ }
+    requires { ⌜ length (now memory) ≡ 5 * count ⌝ }
+    ensures { λ _. ⌜ ((p : Noted (now (sheet .entry)) (now (cells .entry)) count)
+        → now (memory .exit) ≡ memoryBytes (startMemory (p .forms))) ⌝ }
+{
     let mut k = 0;
-    while 5 * k < memory.len() {
-        let kind = sheet[at];
-        put_own(sheet, at, memory, k);
-        k = k + kinds::cells(kind);
-        at = at + 1 + kinds::body(kind);
+    while k < count {
+        let owner = (cells[k] / 4) as usize;
+        memory::put_cell(memory, k, own_cell(sheet, owner));
+        k = k + 1;
+    }
+}
+
+// The answer where the sheet passes the check: done where the memory was filled, else 12.
+fn started(filled: bool) -> Started
+    ensures { λ r. ⌜ r ≡ cond filled Done (Refused MemoryLength 0) ⌝ }
+{
+    if filled {
+        return Started::Done;
+    }
+    Started::Refused {
+        why: Refusal::MemoryLength,
+        place: 0,
     }
 }
 

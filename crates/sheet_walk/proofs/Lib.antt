@@ -1,3 +1,2 @@
 -- What the walks meet.
 pub mod Skipping
-pub mod Locating

@@ -1,43 +1,23 @@
 -- The walk past an expression that puts each cell it meets as it is at the start: what is still ahead of it.
 use Prim.Native.Nat.{ℕ, zero, suc, _+_, _-_, _*_, _≤_, _<_}
 use mathlib.Core.Path.{_≡_, refl, sym, ap, _∙_}
-use mathlib.Core.Bool.{cond}
 use mathlib.Core.List.{List, [], _∷_, _++_, append-assoc, append-nil}
 use native.Mathlib.Omega.{arith}
 use native.Mathlib.Nat.{zero-add, suc-add}
-use lib.Dec.{eqb}
 use lib.ListN.{length, getD, length-append}
 use lib.Seq.{sets}
 use Rattle.numbers.specs.Laws.{sets-append}
 use Rattle.sheet.specs.Data.{typeOfByte}
-use Rattle.sheet.specs.Expressions.{Expression, CellForm, cellForms}
-use Rattle.sheet.specs.Kinds.{bodyOf, cellsOf, countOf, operandsOf, foundOf}
-use Rattle.sheet.specs.Memory.{cellBytes, memoryBytes, startMemory}
+use Rattle.sheet.specs.Expressions.{Expression, cellForms}
+use Rattle.sheet.specs.Kinds.{bodyOf, cellsOf, countOf, operandsOf}
+use Rattle.sheet.specs.Memory.{memoryBytes, startMemory}
 use Rattle.sheet.specs.Readings.{Reading, got, readEach, bodyAt, readExpression, Whole}
 use Rattle.sheet.specs.Sheets.{formsOf}
-use Rattle.sheet.specs.Laws.Readings.{expression-view, run-view, no-level, operands-counted, run-extent}
-use Rattle.sheet.specs.Laws.Readings.{ownForms, forms-of-kind, every-kind, _▸_, end}
+use Rattle.sheet.specs.Laws.Readings.{expression-view, run-view, no-level, operands-counted, run-extent, forms-of-kind}
 use Rattle.sheet_walk.specs.Skips.{Readable}
-use Rattle.sheet_start.specs.Scans.{ownCell, ownBytes}
-use Rattle.sheet_start.proofs.Scanning.{startBytes, own-length}
+use Rattle.sheet_start.specs.Owners.{ownBytes}
+use Rattle.sheet_start.proofs.Starting.{startBytes, start-append, own-start, own-length}
 use Rattle.storing.specs.Advances.{Restarts}
-
-start-append : (a b : List CellForm) → startBytes (a ++ b) ≡ startBytes a ++ startBytes b
-unfolding memoryBytes startMemory
-start-append [] b = refl
-start-append (f ∷ a) b = rw (start-append a b, append-assoc)
-
--- where t is asked of a kind and found, the cell that it owns starts as its kind alone says
-own-start : (inputs wires : List ℕ) (t n b k : ℕ) → k < 18 → foundOf inputs wires t k n ≡ t
-    → startBytes (ownForms k (typeOfByte t) b) ≡ cond (eqb (cellsOf k) 0) [] (cellBytes (ownCell k b))
-unfolding memoryBytes startMemory
-own-start inputs wires t n b = every-kind (λ k. foundOf inputs wires t k n ≡ t
-    → startBytes (ownForms k (typeOfByte t) b) ≡ cond (eqb (cellsOf k) 0) [] (cellBytes (ownCell k b)))
-    (same ▸ same ▸ same ▸ same ▸ same ▸ same ▸ same ▸ same ▸ same ▸ same ▸ same ▸ same ▸ same ▸ same ▸ same
-    ▸ (λ e. rw (← e)) ▸ (λ e. rw (← e)) ▸ same ▸ end)
-  where
-    same : {A : Type 0} {bytes : List ℕ} → A → bytes ≡ bytes
-    same e = refl
 
 -- with `pending` expressions ahead from `at` on and c cells before them, they end at n with k cells, which start as these bytes
 pub data Ahead (s : List ℕ) : (at c pending n k : ℕ) → List ℕ → Type 0 where

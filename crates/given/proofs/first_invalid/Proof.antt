@@ -1,23 +1,22 @@
 -- `first_invalid` meets its contract. The loop's invariant: every cell below k is valid.
 use Prim.Native.Nat.{ℕ, _≤_, _<_, _-_}
-use mathlib.Core.Path.{_≡_, _∙_}
+use mathlib.Core.Path.{_≡_, refl, _∙_}
 use mathlib.Core.Bool.{false}
-use mathlib.Core.List.{List, map}
+use mathlib.Core.List.{List}
 use native.Mathlib.Omega.{arith}
-use lib.ListN.{take}
 use borrow.Author.Count.{below-more}
 use borrow.Author.Needs.{needs}
 use Rattle.sheet.specs.Expressions.{CellForm}
-use Rattle.sheet.specs.Memory.{formByte, invalidAt}
+use Rattle.sheet.specs.Memory.{invalidAt}
 use Rattle.sheet.specs.Laws.Lowest.{lowest-is}
+use Rattle.given.specs.Answers.{Formed}
 use Rattle.given.proofs.Cells.{cell-test}
 use Rattle.given.proofs.first_invalid.Statement.{statement}
 use Rattle.given.proofs.first_invalid.Tie as tie
 
 abbrev Inv-loop : tie.InvT-loop
 Inv-loop forms cells memory k₀ k =
-    (k ≤ cells)
-    × ((fs : List CellForm) → map formByte fs ≡ take cells forms → (j : ℕ) → j < k → invalidAt fs memory j ≡ false)
+    (k ≤ cells) × ((fs : List CellForm) → Formed fs forms cells → (j : ℕ) → j < k → invalidAt fs memory j ≡ false)
 
 abbrev μ-loop : tie.MeasureT-loop
 μ-loop forms cells memory k₀ k = cells - k
@@ -26,19 +25,25 @@ loop-holds : tie.Need-loop-holds Inv-loop μ-loop
 loop-holds c = (omega arith, λ fs e j l. absurd (omega arith))
 
 mul-at : tie.Need-mul-at Inv-loop μ-loop
-mul-at c = omega (arith, c .before .before .before .before .pre)
+mul-at c = omega (arith, c .before .before .before .pre)
+
+mul-form : tie.Need-mul-form Inv-loop μ-loop
+mul-form c = search needs
+
+element-copy-out-form : tie.Need-element-copy-out-form Inv-loop μ-loop
+element-copy-out-form c = omega (arith, c .before .before .before .pre)
+
+cast-form : tie.Need-cast-form Inv-loop μ-loop
+cast-form c = search needs
 
 shared-slice-read-valid-cell : tie.Need-shared-slice-read-valid-cell Inv-loop μ-loop
 shared-slice-read-valid-cell c = omega (arith, c .before .before .before .before .before .pre)
 
-shared-slice-read-valid-cell-2 : tie.Need-shared-slice-read-valid-cell-2 Inv-loop μ-loop
-shared-slice-read-valid-cell-2 c = omega (arith, c .before .before .before .before .before .before .pre)
-
 add-word-at : tie.Need-add-word-at Inv-loop μ-loop
-add-word-at c = omega (arith, c .before .before .before .before .before .before .pre)
+add-word-at c = omega (arith, c .before .before .before .before .before .pre)
 
 word-at-requires : tie.Need-word-at-requires Inv-loop μ-loop
-word-at-requires c κs = omega (arith, c .before .before .before .before .before .before .pre)
+word-at-requires c κs = omega (arith, c .before .before .before .before .before .pre)
 
 valid-cell-requires : tie.Need-valid-cell-requires Inv-loop μ-loop
 valid-cell-requires c κs = search needs
@@ -46,12 +51,10 @@ valid-cell-requires c κs = search needs
 returns : tie.Need-returns Inv-loop μ-loop
 returns c fs e =
     let turn = c .before .before .before .before .before in
-    let a = turn .before .before .before .before .args in
+    let a = turn .before .before .before .args in
     let l = turn .before .loop in
-    lowest-is (invalidAt fs (a .memory .now)) (a .cells) (l .k) (l .inv .0)
-    (λ h. cell-test fs (a .forms .now) (a .memory .now) (a .cells) (l .k) (turn .before .before .before .before .pre .0)
-    (turn .loop-test .taken) e (c .before .before .word-at .ensures) (c .before .valid-cell .ensures)
-    ∙ c .if1 .taken) (l .inv .1 fs e)
+    lowest-is (invalidAt fs (a .memory .now)) (a .cells) (l .k) (l .inv .0) (λ h. cell-test fs (a .forms .now) (a .memory .now) (a .cells) (l .k) (turn .loop-test .taken) e refl (c .before .before .word-at .ensures)
+    (c .before .valid-cell .ensures) ∙ c .if1 .taken) (l .inv .1 fs e)
 
 add-k : tie.Need-add-k Inv-loop μ-loop
 add-k c = omega arith
@@ -62,18 +65,16 @@ loop-less c = omega arith
 loop-again : tie.Need-loop-again Inv-loop μ-loop
 loop-again c =
     let turn = c .before .before .before .before .before in
-    let a = turn .before .before .before .before .args in
+    let a = turn .before .before .before .args in
     let l = turn .before .loop in (
       omega arith,
-      λ fs e. below-more _ _ (l .inv .1 fs e)
-          (cell-test fs (a .forms .now) (a .memory .now) (a .cells) (l .k) (turn .before .before .before .before .pre .0)
-          (turn .loop-test .taken) e (c .before .before .word-at .ensures) (c .before .valid-cell .ensures)
-          ∙ c .if1 .left),
+      λ fs e. below-more _ _ (l .inv .1 fs e) (cell-test fs (a .forms .now) (a .memory .now) (a .cells) (l .k) (turn .loop-test .taken) e refl (c .before .before .word-at .ensures)
+          (c .before .valid-cell .ensures) ∙ c .if1 .left),
     )
 
 returns-2 : tie.Need-returns-2 Inv-loop μ-loop
 returns-2 c fs e =
-    let a = c .before .before .before .before .args in
+    let a = c .before .before .before .args in
     let l = c .before .loop in
     lowest-is (invalidAt fs (a .memory .now)) (a .cells) (l .k) (l .inv .0)
     (λ h. absurd (omega (arith, c .loop-test .left))) (l .inv .1 fs e)
@@ -86,8 +87,10 @@ first-invalid-spec =
     μ-loop
     loop-holds
     mul-at
+    mul-form
+    element-copy-out-form
+    cast-form
     shared-slice-read-valid-cell
-    shared-slice-read-valid-cell-2
     add-word-at
     word-at-requires
     valid-cell-requires

@@ -1,21 +1,16 @@
--- `given_of` meets its contract: the answers follow those of the check and of the buffers' tests.
-use mathlib.Core.Path.{_≡_, sym, _∙_}
-use mathlib.Core.List.{map}
+-- `given_of` meets its contract: the answers follow those of the check and of the buffers' tests, and the map is the check's.
+use mathlib.Core.Path.{_≡_, sym, ap, _∙_}
 use native.Mathlib.Omega.{arith}
-use lib.ListN.{length, replicate, length-take, length-map}
 use borrow.Author.Needs.{needs}
+use lib.ListN.{length, length-take}
 use Rattle.sheet.specs.Sheets.{sheetForms}
-use Rattle.sheet.specs.Memory.{formByte}
 use Rattle.given.specs.Answers.{buffersTested}
-use Rattle.given.proofs.Tests.{stored-first, Passes, own-tests, own-counts, passes, sheet-refused, buffers-answer}
+use Rattle.given.proofs.Tests.{noted-forms, Passes, own-tests, own-counts, passes, sheet-refused, buffers-answer}
 use Rattle.given.proofs.given_of.Statement.{statement}
 use Rattle.given.proofs.given_of.Tie as tie
 
-slice-aggregate-check-forms : tie.Need-slice-aggregate-check-forms
-slice-aggregate-check-forms c = search needs
-
-check-forms-requires : tie.Need-check-forms-requires
-check-forms-requires c κs = search needs
+check-map-requires : tie.Need-check-map-requires
+check-map-requires c κs = search needs
 
 enum-known-why : tie.Need-enum-known-why
 enum-known-why c = search needs
@@ -26,11 +21,9 @@ enum-known-inputs c = search needs
 -- the check passed the sheet
 found : (c : tie.After-known-told2)
     → let n = c .before .inputs .given .0 in
-    let a = c .before .before .before .before .before .before .before .before .before .before .args in
+    let a = c .before .before .before .before .before .before .before .before .before .before .before .before .args in
     Passes (a .sheet .now) (n .0) (n .1 .0) (n .1 .1 .0) (n .1 .1 .1 .0)
-found c =
-    passes (c .before .before .before .before .before .before .before .before .before .before .args .sheet .now) _ _ _ _
-    (sym (c .before .before .before .before .check-forms .ensures .0) ∙ c .before .inputs .given .1)
+found c = passes (c .before .before .before .before .before .before .before .before .before .before .before .before .args .sheet .now) _ _ _ _ (sym (c .before .before .before .check-map .ensures .0) ∙ c .before .inputs .given .1)
 
 add-types : tie.Need-add-types
 add-types c = omega (arith, found c .few-inputs)
@@ -44,29 +37,23 @@ part-types-start c = search needs
 part-types-end : tie.Need-part-types-end
 part-types-end c = found c .within
 
-slice-aggregate-check-buffers : tie.Need-slice-aggregate-check-buffers
-slice-aggregate-check-buffers c = search needs
-
 check-buffers-requires : tie.Need-check-buffers-requires
 check-buffers-requires c κs =
-    let p = found (c .before .before) in (
-      (p .few-cells, omega (arith, p .few-cells, c .before .before .before .before .before .before .check-forms .kept .1 .0)),
-      (simp length-take (omega (arith, p .few-inputs)), p .few-outputs),
-    )
+    let p = found (c .before .before) in (p .few-cells, (simp length-take (omega (arith, p .few-inputs)), p .few-outputs))
 
 -- the tests were of the sheet's own forms, types and outputs
 tested : (c : tie.After-check-buffers)
-    → let a = c .before .before .before .before .before .before .before .before .before .before .before .before .before .args in
+    → let a = c .before .before .before .before .before .before .before .before .before .before .before .before .before .before .before .args in
     let sheet = found (c .before .before .before) .sheet in
     c .check-buffers .result
     ≡ buffersTested (sheetForms sheet) (sheet .inputTypes) (length (sheet .outputs)) (a .memory .now) (a .input .now) (a .output .now)
 tested c =
-    let a = c .before .before .before .before .before .before .before .before .before .before .before .before .before .args in
+    let a = c .before .before .before .before .before .before .before .before .before .before .before .before .before .before .before .args in
     let p = found (c .before .before .before) in
-    let stored = stored-first (map formByte (sheetForms (p .sheet))) (replicate 64 0)
-    (length-map (sheetForms (p .sheet)) formByte ∙ p .cells-are) (p .few-cells)
-    (c .before .before .before .before .before .before .before .check-forms .ensures .1 (p .sheet) (p .outcome)) in
-    c .check-buffers .ensures (sheetForms (p .sheet)) stored ∙ own-tests p (a .memory .now) (a .input .now) (a .output .now)
+    let mapped = c .before .before .before .before .before .before .check-map .ensures .1 (p .sheet) (p .end) _ (p .view) in
+    let noted = rw (← (ap sheetForms (p .view .is))) at (mapped .cell) in
+    c .check-buffers .ensures (sheetForms (p .sheet)) (noted-forms (p .cells-are) noted)
+    ∙ own-tests p (a .memory .now) (a .input .now) (a .output .now)
 
 enum-known-why-2 : tie.Need-enum-known-why-2
 enum-known-why-2 c = search needs
@@ -75,31 +62,35 @@ enum-told : tie.Need-enum-told
 enum-told c = search needs
 
 returns : tie.Need-returns
-returns c = sheet-refused _ _ _ _ (sym (c .before .before .before .before .check-forms .ensures .0) ∙ c .before .why .given .1)
+returns c = (
+  sheet-refused _ _ _ _ (sym (c .before .before .before .check-map .ensures .0) ∙ c .before .why .given .1),
+  λ sheet n k v. c .before .before .before .check-map .ensures .1 sheet n k v .sites,
+)
 
 returns-2 : tie.Need-returns-2
-returns-2 c =
-    buffers-answer _ _ _ _ (found (c .before .before .before .before .before .before) .outcome)
-    (sym (c .before .why2 .given .1) ∙ tested (c .before .before .before))
+returns-2 c = (
+  buffers-answer _ _ _ _ (found (c .before .before .before .before .before .before) .outcome) (sym (c .before .why2 .given .1) ∙ tested (c .before .before .before)),
+  λ sheet n k v. c .before .before .before .before .before .before .before .before .before .check-map .ensures .1 sheet n k v .sites,
+)
 
 returns-3 : tie.Need-returns-3
 returns-3 c =
-    let p = found (c .before .before .before .before .before) in
-    own-counts p ∙ buffers-answer _ _ _ _ (p .outcome) (sym (c .enum-told .given .1) ∙ tested (c .before .before))
+    let p = found (c .before .before .before .before .before) in (
+      own-counts p ∙ buffers-answer _ _ _ _ (p .outcome) (sym (c .enum-told .given .1) ∙ tested (c .before .before)),
+      λ sheet n k v. c .before .before .before .before .before .before .before .before .check-map .ensures .1 sheet n k v .sites,
+    )
 
 pub given-of-spec : {M : Type 1} → statement M
 given-of-spec =
     tie.close
     (tie.spec
-    slice-aggregate-check-forms
-    check-forms-requires
+    check-map-requires
     enum-known-why
     enum-known-inputs
     add-types
     sub-types
     part-types-start
     part-types-end
-    slice-aggregate-check-buffers
     check-buffers-requires
     enum-known-why-2
     enum-told

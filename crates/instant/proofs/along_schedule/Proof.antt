@@ -16,7 +16,8 @@ enum-known-inputs c = search needs
 
 solve-along-requires : tie.Need-solve-along-requires
 solve-along-requires c κs =
-    granted (sym (c .before .before .before .inputs .given .1) ∙ c .before .before .before .before .before .given-of .ensures)
+    let checked = c .before .before .before .before .before .before .before .before .given-of in
+    granted (sym (c .before .before .before .before .before .before .inputs .given .1) ∙ checked .ensures .0) (checked .ensures .1)
 
 same-length : tie.Need-same-length
 same-length c = search needs
@@ -26,9 +27,9 @@ same-length-2 c = search needs
 
 returns : tie.Need-returns
 returns c =
-    let a = c .before .before .before .before .before .before .before .before .before .before .before .args in
+    let a = c .before .before .before .before .before .before .before .before .before .before .before .before .before .before .args in
     scheduled-refused (a .sheet .now) (a .memory .now) (a .input .now) (a .output .now)
-    (sym (c .before .why .given .1) ∙ c .before .before .before .given-of .ensures) (a .schedule .now)
+    (sym (c .before .why .given .1) ∙ c .before .before .before .given-of .ensures .0) (a .schedule .now)
 
 same-length-3 : tie.Need-same-length-3
 same-length-3 c = search needs

@@ -1,43 +1,39 @@
 -- `solve_along` meets its contract.
-use mathlib.Core.Path.{_≡_, refl, sym, _∙_}
+use mathlib.Core.Path.{_≡_, sym, _∙_}
 use native.Mathlib.Omega.{arith}
 use borrow.Author.Needs.{needs}
 use Rattle.kernel.specs.Schedules.{scheduleOf, IsSchedule}
 use Rattle.schedule.specs.Orders.{orderedAnswer}
-use Rattle.instant.specs.Along.{wiresOf}
 use Rattle.instant.proofs.Laying.{Laid, laid}
-use Rattle.instant.proofs.Calling.{given, HoldsFinished, settled, row-fits, Sited, along}
+use Rattle.instant.proofs.Calling.{given, HoldsFinished, settled, row-fits, along}
 use Rattle.instant.proofs.Calling.{order-refused, order-passed, pass-holds, scheduled-accepts}
 use Rattle.instant.proofs.solve_along.Statement.{statement}
 use Rattle.instant.proofs.solve_along.Tie as tie
 
 -- the parts of the sheet, where the memory is known to hold bytes
 laid-of : (c : tie.After-slice-known) → let a = c .before .before .args in
-    Laid (a .sheet .now) (a .memory .now) (a .input .now) (a .output .now) (a .inputs) (a .wires) (a .outputs)
+    Laid (a .sheet .now) (a .memory .now) (a .input .now) (a .output .now) (a .places .now) (a .firsts .now) (a .reads .now)
+    (a .inputs) (a .wires) (a .outputs)
 laid-of c = laid (c .before .before .pre) (λ i. omega (arith, c .slice-known .given i))
 
 -- where these are known, from the check of the list; the check, from the pass
 abbrev slices : tie.After-check-schedule → tie.After-slice-known
-slices c = c .before .before .before .before .before .before .before
+slices c = c .before .before .before .before .before
 
 abbrev order : tie.After-pass → tie.After-enum-told
-order c = c .before .before .before .before .before
+order c = c .before .before .before
 
 -- what the check of the list answers
 ordered : (c : tie.After-check-schedule) → let l = laid-of (slices c) in
     c .check-schedule .result ≡ orderedAnswer (scheduleOf (given l .sheet) (slices c .before .before .args .schedule .now))
-ordered c = let l = laid-of (slices c) in c .check-schedule .ensures .0 (wiresOf (l .running)) (given l .sheet) refl
+ordered c =
+    let l = laid-of (slices c) in
+    c .check-schedule .ensures (given l .sheet) (omega (arith, l .wired)) (λ w m. l .reading w (omega arith))
 
--- the list is a schedule, and the wires' places are noted
+-- the list is a schedule
 schedule-of : (c : tie.After-enum-told) → let at = slices (c .before .before) in
     IsSchedule (given (laid-of at) .sheet) (at .before .before .args .schedule .now)
 schedule-of c = order-passed (laid-of (slices (c .before .before))) (sym (c .enum-told .given .1) ∙ ordered (c .before .before))
-
-sited-of : (c : tie.After-enum-told) → let noted = c .before .before .check-schedule .last .1 .1 .1 .1 in
-    Sited (laid-of (slices (c .before .before))) (noted .0) (noted .1 .0)
-sited-of c =
-    let checked = c .before .before in
-    checked .check-schedule .ensures .1 (wiresOf (laid-of (slices checked) .running)) (c .enum-told .given .1)
 
 -- the pass came to the finished values
 holds-of : (c : tie.After-pass) → let l = laid-of (slices (order c .before .before)) in
@@ -45,7 +41,7 @@ holds-of : (c : tie.After-pass) → let l = laid-of (slices (order c .before .be
 holds-of c =
     let l = laid-of (slices (order c .before .before)) in
     let schedule = schedule-of (order c) in
-    pass-holds l schedule (c .pass .ensures (along l (sited-of (order c)) schedule (l .running .few)))
+    pass-holds l schedule (c .pass .ensures (along l schedule (l .running .few)))
 
 add-from : tie.Need-add-from
 add-from c = omega (arith, laid-of (c .before .before .before) .within)
@@ -69,7 +65,7 @@ part-types-end : tie.Need-part-types-end
 part-types-end c = omega (arith, laid-of (c .before .before .before) .within)
 
 check-schedule-requires : tie.Need-check-schedule-requires
-check-schedule-requires c κs = let l = laid-of (c .before .before .before .before .before .before) in (l .running .few, wiresOf (l .running))
+check-schedule-requires c κs = omega (arith, laid-of (c .before .before .before .before) .running .few)
 
 enum-known-why : tie.Need-enum-known-why
 enum-known-why c = search needs
@@ -79,9 +75,9 @@ enum-told c = search needs
 
 pass-requires : tie.Need-pass-requires
 pass-requires c κs =
-    let told = c .before .before .before .before in
+    let told = c .before .before in
     let l = laid-of (slices (told .before .before)) in
-    along l (sited-of told) (schedule-of told) (l .running .few)
+    along l (schedule-of told) (l .running .few)
 
 store-requires : tie.Need-store-requires
 store-requires c κs =

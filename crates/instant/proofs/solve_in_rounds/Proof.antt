@@ -1,7 +1,10 @@
--- `solve_in_rounds` meets its contract.
-use mathlib.Core.Path.{sym, _∙_}
+-- `solve_in_rounds` meets its contract, by either way past the test whether all wires are known.
+use mathlib.Core.Logic.{⊎-elim}
+use mathlib.Core.Path.{sym, ap, _∙_}
 use native.Mathlib.Omega.{arith}
+use lib.ListN.{length}
 use borrow.Author.Needs.{needs}
+use borrow.Author.Tests.{eqb-true, eqb-false}
 use Rattle.instant.proofs.Laying.{Laid, laid}
 use Rattle.instant.proofs.Calling.{settled, row-fits, unknown-refused, rounds-accepted}
 use Rattle.instant.proofs.solve_in_rounds.Statement.{statement}
@@ -9,7 +12,8 @@ use Rattle.instant.proofs.solve_in_rounds.Tie as tie
 
 -- the parts of the sheet, where the memory is known to hold bytes
 laid-of : (c : tie.After-slice-known) → let a = c .before .before .args in
-    Laid (a .sheet .now) (a .memory .now) (a .input .now) (a .output .now) (a .inputs) (a .wires) (a .outputs)
+    Laid (a .sheet .now) (a .memory .now) (a .input .now) (a .output .now) (a .places .now) (a .firsts .now) (a .reads .now)
+    (a .inputs) (a .wires) (a .outputs)
 laid-of c = laid (c .before .before .pre) (λ i. omega (arith, c .slice-known .given i))
 
 -- where these are known, from the rounds
@@ -43,24 +47,8 @@ finish-requires c κs = let l = laid-of (c .before .before .before .before .befo
 count-requires : tie.Need-count-requires
 count-requires c κs = search needs
 
-cast-if1 : tie.Need-cast-if1
-cast-if1 c = search needs
-
-lowest-missing-requires : tie.Need-lowest-missing-requires
-lowest-missing-requires c κs = search needs
-
-cast-t27 : tie.Need-cast-t27
-cast-t27 c = search needs
-
-same-length : tie.Need-same-length
-same-length c = search needs
-
-returns : tie.Need-returns
-returns c =
-    let solved = c .before .before .before .before in
-    let l = laid-of (slices solved) in
-    unknown-refused l (solved .finish .ensures (l .running) .0) (λ e. c .before .if1 .taken (c .before .before .count .ensures ∙ e))
-    (c .lowest-missing .ensures)
+cast-full : tie.Need-cast-full
+cast-full c = search needs
 
 store-requires : tie.Need-store-requires
 store-requires c κs =
@@ -75,26 +63,33 @@ part-write-row-start : tie.Need-part-write-row-start
 part-write-row-start c = search needs
 
 part-write-row-end : tie.Need-part-write-row-end
-part-write-row-end c =
-    omega (arith, laid-of (slices (c .before .before .before .before .before .before .before .before)) .within)
+part-write-row-end c = omega (arith, laid-of (slices (c .before .before .before .before .before .before .before .before)) .within)
 
 write-row-requires : tie.Need-write-row-requires
 write-row-requires c κs = row-fits (laid-of (slices (c .before .before .before .before .before .before .before .before .before .before .before)))
 
+answered-requires : tie.Need-answered-requires
+answered-requires c κs = search needs
+
+same-length : tie.Need-same-length
+same-length c =
+    ⊎-elim (λ w. ap length (w .12) ∙ w .3 .kept .1 .0) (λ w. ap length (w .1)) (c .before .if1 .came)
+
 same-length-2 : tie.Need-same-length-2
-same-length-2 c = search needs
+same-length-2 c =
+    ⊎-elim (λ w. ap length (w .13) ∙ w .9 .kept .1 .1 .0) (λ w. ap length (w .2)) (c .before .if1 .came)
 
-same-length-3 : tie.Need-same-length-3
-same-length-3 c = search needs
-
-returns-2 : tie.Need-returns-2
-returns-2 c =
-    let left = c .before .before .before .before .before .before .before .before .before .before .before in
-    let solved = left .before .before .before in
+returns : tie.Need-returns
+returns c =
+    let solved = c .before .before .before .before in
     let l = laid-of (slices solved) in
     let h = solved .finish .ensures (l .running) .0 in
-    rounds-accepted l h (sym (left .before .count .ensures) ∙ left .if1 .left) (solved .finish .ensures (l .running) .1)
-    (c .before .before .before .before .before .before .before .before .store .ensures (settled l h)) (c .before .before .write-row .ensures)
+    let counted = c .before .before .count .ensures in
+    ⊎-elim
+    (λ w. rounds-accepted l h (c .answered .ensures) (w .0 .taken) (sym counted ∙ eqb-true _ _ (w .0 .taken))
+    (solved .finish .ensures (l .running) .1) (w .12 ∙ w .3 .ensures (settled l h)) (w .13 ∙ w .9 .ensures))
+    (λ w. unknown-refused l h (c .answered .ensures) (w .0 .left) (λ e. eqb-false _ _ (w .0 .left) (counted ∙ e)) (w .1) (w .2))
+    (c .before .if1 .came)
 
 pub solve-in-rounds-spec : {M : Type 1} → statement M
 solve-in-rounds-spec =
@@ -109,16 +104,13 @@ solve-in-rounds-spec =
     part-types-end
     finish-requires
     count-requires
-    cast-if1
-    lowest-missing-requires
-    cast-t27
-    same-length
-    returns
+    cast-full
     store-requires
     sub-write-row
     part-write-row-start
     part-write-row-end
     write-row-requires
+    answered-requires
+    same-length
     same-length-2
-    same-length-3
-    returns-2)
+    returns)

@@ -1,4 +1,4 @@
--- The value of an expression goes by the wires that it wiresRead, the inputs that it names and its own cells, and by nothing else:
+-- The value of an expression goes by the wires that it reads, the inputs that it names and its own cells, and by nothing else:
 -- where these agree, so does the value; where the wires grow, so does the value. Both are one induction, over a relation on values.
 use mathlib.Core.Path.{_≡_, refl}
 use Prim.Native.Nat.{ℕ, suc, _+_, _≤_, _<_}
@@ -7,16 +7,16 @@ use mathlib.Core.Bool.{Bool, true, false, _||_, cond}
 use mathlib.Core.List.{List, _++_}
 use Rattle.kernel.specs.Values.{truth, whenKnown}
 use Rattle.kernel.specs.Order.{_⊑_, same, _⊑*_, valueAt}
-use Rattle.kernel.specs.Lists.{Every}
+use Rattle.sheet.specs.Lists.{Every}
 use Rattle.kernel.specs.Operations.{applyUnary, applyBinary}
 use Rattle.sheet.specs.Expressions.{Expression, constant, wire, input, unary, binary, choose, reset, pre, fby}
 use Rattle.sheet.specs.Expressions.{Choice, conditional, present}
 use Rattle.sheet.specs.Expressions.{cellCount}
 use Rattle.sheet.specs.declared.Cell.{Cell}
 use Rattle.sheet.specs.declared.Cell.the-variants.{NotStarted, Started}
-use Rattle.kernel.specs.Reads.{wiresRead, inputsRead}
+use Rattle.sheet.specs.Reads.{wiresRead, inputsRead}
 use Rattle.kernel.specs.Instant.{Environment, inputAt, cellAt, knownOr, chosen, value}
-use Rattle.kernel.specs.Laws.Lists.{only, every, every-append}
+use Rattle.sheet.specs.Laws.Lists.{only, every, every-append}
 use Rattle.kernel.specs.Laws.Order.{whenKnown-grows}
 use Rattle.sheet.specs.declared.Datum.{Datum}
 use Rattle.kernel.specs.declared.Value.{Value}

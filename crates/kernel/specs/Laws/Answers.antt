@@ -17,7 +17,7 @@ use Rattle.kernel.specs.Systems as System
 use Rattle.kernel.specs.Systems.{Full, Solution, LeastSolution, after, unchanged}
 use Rattle.kernel.specs.Instants.{wireCount, rounds, finished, nextMemory, outputRow}
 use Rattle.kernel.specs.Calls.{Given, givenOf, Accepted, inRounds, scheduled, roundsAnswer, scheduledAnswer, roundsCall, scheduledCall}
-use Rattle.kernel.specs.Laws.Lists.{never}
+use Rattle.sheet.specs.Laws.Lists.{never}
 use Rattle.kernel.specs.Laws.Rounds.{FirstUnchanged, rounds-first}
 use Rattle.kernel.specs.Laws.Instants.{round-monotone}
 use Rattle.kernel.specs.Laws.Demands.{givesOf, RefusedAt, accepted-or-refused, givenRound, givenFinished, givenRounds}

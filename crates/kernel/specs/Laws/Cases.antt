@@ -22,8 +22,8 @@ use Rattle.sheet.specs.declared.Refusal.{Refusal}
 use Rattle.kernel.specs.Order.{valueAt}
 use Rattle.kernel.specs.Values.{IsKnown, known}
 use Rattle.kernel.specs.Equality.{sameDatum, sameValue, sameValues}
-use Rattle.kernel.specs.Lists.{among, allAmong}
-use Rattle.kernel.specs.Reads.{wiresRead}
+use Rattle.sheet.specs.Lists.{among, allAmong}
+use Rattle.sheet.specs.Reads.{wiresRead}
 use Rattle.kernel.specs.Instant.{value, kept, stored}
 use Rattle.kernel.specs.Systems as System
 use Rattle.kernel.specs.Systems.{Full}
@@ -32,7 +32,7 @@ use Rattle.kernel.specs.Schedules.{entryAt, notNew, tooEarly, scheduleOf
 use Rattle.kernel.specs.Calls.{Given, givenOf, placeOfUnknown, acceptedOf, inRounds, scheduled, scheduledAnswer}
 use Rattle.kernel.specs.Calls.{roundsCall, scheduledCall}
 use Rattle.kernel.specs.Cases.{sameBytes, all, agrees, holdsFrom, holds, crossedSheet, table}
-use Rattle.kernel.specs.Laws.Lists.{never}
+use Rattle.sheet.specs.Laws.Lists.{never}
 use Rattle.kernel.specs.Laws.Given.{given-by}
 use Rattle.kernel.specs.Laws.Schedules.{Passed, schedule-passed, pass-full-of, pass-finished}
 use Rattle.kernel.specs.declared.Value.{Value}

@@ -11,7 +11,7 @@ use Rattle.kernel.specs.Values.{IsKnown, known}
 use Rattle.kernel.specs.Order.{_⊑_, unknown, same, _⊑*_, valueAt, tally, knownCount}
 use Rattle.kernel.specs.Equality.{sameValues}
 use Rattle.kernel.specs.Systems.{Full}
-use Rattle.kernel.specs.Laws.Lists.{never}
+use Rattle.sheet.specs.Laws.Lists.{never}
 use Rattle.kernel.specs.Laws.Equality.{values-refl}
 use Rattle.kernel.specs.declared.Value.{Value}
 use Rattle.kernel.specs.declared.Value.the-variants.{Unknown, Known}

@@ -19,7 +19,7 @@ use Rattle.kernel.specs.Systems.{Full, Solution, LeastSolution}
 use Rattle.kernel.specs.Instants.{wireCount, round, rounds, finished, nextMemory, outputRow}
 use Rattle.kernel.specs.Schedules.{IsSchedule, pass}
 use Rattle.kernel.specs.Calls.{Given, givenOf, placeOfUnknown, Accepted, acceptedOf, inRounds, scheduled, roundsCall, scheduledCall}
-use Rattle.kernel.specs.Laws.Lists.{never}
+use Rattle.sheet.specs.Laws.Lists.{never}
 use Rattle.kernel.specs.Laws.Given.{given-same}
 use Rattle.kernel.specs.Laws.Solutions.{finished-solution, finished-least, only-solution, rounds-bound}
 use Rattle.kernel.specs.Laws.Schedules.{schedule-passes, passes-schedule, pass-full-of, pass-finished}

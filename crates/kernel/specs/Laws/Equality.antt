@@ -4,7 +4,7 @@ use mathlib.Core.Bool.{true, false}
 use mathlib.Core.List.{List, [], _∷_}
 use Rattle.numbers.specs.Laws.{equals-true, equals-refl}
 use Rattle.kernel.specs.Equality.{sameDatum, sameValue, sameValues}
-use Rattle.kernel.specs.Laws.Lists.{both}
+use Rattle.sheet.specs.Laws.Lists.{both}
 use Rattle.sheet.specs.declared.Datum.{Datum}
 use Rattle.sheet.specs.declared.Datum.the-variants.{Boolean, Number}
 use Rattle.kernel.specs.declared.Value.{Value}

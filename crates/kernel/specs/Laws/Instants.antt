@@ -8,12 +8,12 @@ use mathlib.Core.List.{List, [], _∷_}
 use lib.ListN.{length}
 use Rattle.kernel.specs.Values.{IsKnown}
 use Rattle.kernel.specs.Order.{_⊑_, unknown, _⊑*_, valueAt}
-use Rattle.kernel.specs.Lists.{Every}
+use Rattle.sheet.specs.Lists.{Every}
 use Rattle.kernel.specs.Instant.{Environment, under}
 use Rattle.sheet.specs.Expressions.{Expression, cellCount}
 use Rattle.sheet.specs.Sheets.{Sheet}
 use Rattle.sheet.specs.declared.Cell.{Cell}
-use Rattle.kernel.specs.Reads.{wiresRead, inputsRead}
+use Rattle.sheet.specs.Reads.{wiresRead, inputsRead}
 use Rattle.kernel.specs.Instants.{wireCount, readsAt, valueOfWire, values, round}
 use Rattle.kernel.specs.Systems.{Monotone}
 use Rattle.kernel.specs.Laws.Agreement.{Agree, Respected, related, value-grows}

@@ -1,18 +1,18 @@
--- An expression is known where the wires that it wiresRead within the instant are.
+-- An expression is known where the wires that it reads within the instant are.
 use Prim.Native.Nat.{ℕ, suc, _+_}
 use mathlib.Core.Bool.{Bool, true, false, _||_, cond}
 use mathlib.Core.List.{_++_}
 use Rattle.kernel.specs.Values.{truth, whenKnown, IsKnown, known}
 use Rattle.kernel.specs.Order.{valueAt}
-use Rattle.kernel.specs.Lists.{Every}
+use Rattle.sheet.specs.Lists.{Every}
 use Rattle.sheet.specs.Expressions.{Expression, constant, wire, input, unary, binary, choose, reset, pre, fby}
 use Rattle.sheet.specs.Expressions.{Choice, conditional, present}
 use Rattle.sheet.specs.Expressions.{cellCount}
 use Rattle.sheet.specs.declared.Cell.{Cell}
 use Rattle.sheet.specs.declared.Cell.the-variants.{NotStarted, Started}
-use Rattle.kernel.specs.Reads.{wiresRead}
+use Rattle.sheet.specs.Reads.{wiresRead}
 use Rattle.kernel.specs.Instant.{Environment, cellAt, knownOr, chosen, value}
-use Rattle.kernel.specs.Laws.Lists.{only, every-append}
+use Rattle.sheet.specs.Laws.Lists.{only, every-append}
 use Rattle.sheet.specs.declared.Datum.{Datum}
 use Rattle.kernel.specs.declared.Value.{Value}
 

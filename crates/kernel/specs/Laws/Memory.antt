@@ -24,7 +24,7 @@ use Rattle.kernel.specs.Systems as System
 use Rattle.kernel.specs.Systems.{Full}
 use Rattle.kernel.specs.Instants.{wireCount, values, storedCells, round, finished, nextMemory, outputRow}
 use Rattle.kernel.specs.Calls.{Given, givenOf}
-use Rattle.kernel.specs.Laws.Lists.{never}
+use Rattle.sheet.specs.Laws.Lists.{never}
 use Rattle.kernel.specs.Laws.Order.{unknown-at}
 use Rattle.kernel.specs.Laws.Given.{given-by}
 use Rattle.kernel.specs.Laws.Typing.{OnWires, ValidFrom, parts, valid-from-start, Inherited, fits-inherited, value-typed}

@@ -10,10 +10,10 @@ use lib.Seq.{take-suc, take-all}
 use borrow.Author.Tests.{eqb-true, eqb-false, ltb-true, not-false}
 use Rattle.kernel.specs.Values.{IsKnown}
 use Rattle.kernel.specs.Order.{valueAt, allUnknown, knownCount}
-use Rattle.kernel.specs.Lists.{among, allAmong, Every}
+use Rattle.sheet.specs.Lists.{among, allAmong, Every}
 use Rattle.kernel.specs.Systems.{Full, Monotone, visit, visits, finished}
 use Rattle.kernel.specs.Schedules.{entryAt, notNew, tooEarly}
-use Rattle.kernel.specs.Laws.Lists.{never, neither, among-append, every-among}
+use Rattle.sheet.specs.Laws.Lists.{never, neither, among-append, every-among}
 use Rattle.kernel.specs.Laws.Order.{full-same, unknown-at}
 use Rattle.kernel.specs.Laws.Counting.{count-unknown, count-full, count-set}
 use Rattle.kernel.specs.Laws.Rounds.{finished-length}

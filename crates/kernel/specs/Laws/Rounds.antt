@@ -13,7 +13,7 @@ use Rattle.kernel.specs.Values.{IsKnown}
 use Rattle.kernel.specs.Order.{_⊑*_, valueAt, knownCount}
 use Rattle.kernel.specs.Equality.{sameValues}
 use Rattle.kernel.specs.Systems.{Full, Monotone, Solution, after, unchanged, rounds, finished}
-use Rattle.kernel.specs.Laws.Lists.{never}
+use Rattle.sheet.specs.Laws.Lists.{never}
 use Rattle.kernel.specs.Laws.Order.{known-same, ⊑*-antisym, allUnknown-below, full-same}
 use Rattle.kernel.specs.Laws.Equality.{values-true, values-refl}
 use Rattle.kernel.specs.Laws.Counting.{more-known, count-bound}

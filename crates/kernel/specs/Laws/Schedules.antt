@@ -15,13 +15,13 @@ use Rattle.sheet.specs.Laws.Lowest.{none-lowest}
 use Rattle.sheet.specs.Laws.Outcomes.{length-passed, any-passed}
 use Rattle.sheet.specs.declared.Datum.{Datum}
 use Rattle.sheet.specs.declared.Cell.{Cell}
-use Rattle.kernel.specs.Lists.{among, allAmong, Every}
+use Rattle.sheet.specs.Lists.{among, allAmong, Every}
 use Rattle.kernel.specs.Order.{valueAt, allUnknown}
 use Rattle.kernel.specs.Systems.{Full, visit, visits}
 use Rattle.kernel.specs.Instants.{wireCount, readsAt, round, finished}
 use Rattle.kernel.specs.Schedules.{entryAt, notNew, tooEarly, scheduleOf, Earlier, IsSchedule, passFrom, pass}
 use Rattle.kernel.specs.Laws.Pigeonhole.{at-most, at-least, each-met}
-use Rattle.kernel.specs.Laws.Lists.{never, neither, among-append, every-among, all-among}
+use Rattle.sheet.specs.Laws.Lists.{never, neither, among-append, every-among, all-among}
 use Rattle.kernel.specs.Laws.Passes.{pass-full, pass-finishes}
 use Rattle.kernel.specs.Laws.Instants.{round-at, round-monotone, round-known}
 use Rattle.kernel.specs.declared.Value.{Value}

@@ -25,7 +25,7 @@ use Rattle.kernel.specs.Values.{truth, amount, whenKnown, Has, has, Fits
 use Rattle.kernel.specs.Order.{valueAt}
 use Rattle.kernel.specs.Operations.{applyUnary, applyBinary}
 use Rattle.kernel.specs.Instant.{Environment, inputAt, cellAt, heldOr, knownOr, chosen, value}
-use Rattle.kernel.specs.Laws.Lists.{never}
+use Rattle.sheet.specs.Laws.Lists.{never}
 use Rattle.kernel.specs.declared.Value.{Value}
 use Rattle.kernel.specs.declared.Value.the-variants.{Known}
 

@@ -10,9 +10,9 @@ use lib.Seq.{getD-set-same, getD-set-other, set-out}
 use borrow.Author.Tests.{eqb-true, eqb-false, ltb-true, ltb-false}
 use Rattle.kernel.specs.Values.{IsKnown}
 use Rattle.kernel.specs.Order.{_⊑_, unknown, same, _⊑*_, valueAt, allUnknown}
-use Rattle.kernel.specs.Lists.{among, Every, none, _and_}
+use Rattle.sheet.specs.Lists.{among, Every, none, _and_}
 use Rattle.kernel.specs.Systems.{Monotone, Covers, Solution, visit, visits, sweeps, after, finished}
-use Rattle.kernel.specs.Laws.Lists.{never}
+use Rattle.sheet.specs.Laws.Lists.{never}
 use Rattle.kernel.specs.Laws.Order.{⊑-trans, ⊑-of-≡, ⊑*-trans, ⊑*-antisym, known-same, allUnknown-below}
 use Rattle.kernel.specs.Laws.Rounds as Rounds
 use Rattle.kernel.specs.declared.Value.{Value}

@@ -1,7 +1,7 @@
 -- `packed` meets its contract: a number is at most 20, so that the sum fits. Assumes nothing.
 use native.Mathlib.Omega.{arith}
 use borrow.Author.Needs.{needs}
-use Rattle.sheet.specs.Laws.Places.{numbers-few}
+use Rattle.sheet.specs.Laws.Refusals.{numbers-few}
 use Rattle.nuthatchbed.proofs.packed.Statement.{statement}
 use Rattle.nuthatchbed.proofs.packed.Tie as tie
 

@@ -11,11 +11,11 @@ use Rattle.rounds.proofs.finish.Statement.{statement}
 use Rattle.rounds.proofs.finish.Tie as tie
 
 abbrev Inv-loop : tie.InvT-loop
-Inv-loop sheet memory input types first words₀ known₀ rounds₀ words known rounds =
-    (rounds ≤ tally (member (known .bits)) 64) × ((run : Running sheet memory input types first) → Rounded run rounds (known .bits) words)
+Inv-loop sheet memory input types places firsts words₀ known₀ rounds₀ words known rounds =
+    (rounds ≤ tally (member (known .bits)) 64) × ((run : Running sheet memory input types places firsts) → Rounded run rounds (known .bits) words)
 
 abbrev μ-loop : tie.MeasureT-loop
-μ-loop sheet memory input types first words₀ known₀ rounds₀ words known rounds = 64 - tally (member (known .bits)) 64
+μ-loop sheet memory input types places firsts words₀ known₀ rounds₀ words known rounds = 64 - tally (member (known .bits)) 64
 
 -- the counts of the two sets differ, so that the round knows more
 differ : (c : tie.Else1 Inv-loop μ-loop)

@@ -15,21 +15,25 @@ use mir.Facts.{ofZ-toZ}
 use Rattle.numbers.specs.Words.{wordBytes}
 use Rattle.numbers.specs.Laws.{word-bound}
 use Rattle.sheet.specs.Data.{ValueType, boolean, number, typeOfByte, standsFor, datumOf, wordOf}
-use Rattle.sheet.specs.Expressions.{Expression, CellForm, fbyCell}
+use Rattle.sheet.specs.Expressions.{Expression, CellForm, constant, fbyCell}
+use Rattle.sheet.specs.Reads.{wiresRead}
 use Rattle.sheet.specs.Readings.{got, readEach, readExpression}
 use Rattle.sheet.specs.Outcomes.{result}
 use Rattle.sheet.specs.Memory.{startsEmpty, cellBytes, markAt, cellWordAt, readCell, validCell, cellsFrom, memoryOf}
 use Rattle.sheet.specs.Rows.{entryAt, wrongAt, dataFrom, inputsOf}
 use Rattle.sheet.specs.Sheets.{Sheet, sheetForms, before}
 use Rattle.sheet.specs.Laws.Outcomes.{same-result, length-passed, any-passed}
-use Rattle.sheet.specs.Laws.Headers.{sheet-view, section-good, section-length}
+use Rattle.sheet.specs.Laws.Headers.{SheetRead, sheet-view, section-good, section-length}
 use Rattle.sheet.specs.Laws.Typing.{passed-check}
 use Rattle.sheet.specs.Laws.Memory.{memory-view}
 use Rattle.sheet.specs.declared.Cell.{Cell}
 use Rattle.sheet.specs.declared.Cell.the-variants.{NotStarted, Started}
+use Rattle.sheet.specs.declared.Datum.the-variants.{Boolean}
+use Rattle.sheet_check.specs.Map.{StartsAt, HoldsJust, Sited, wiresOf, runOf}
 use Rattle.kernel.specs.Instant.{inputAt, cellAt}
+use Rattle.kernel.specs.Instants.{readsAt}
 use Rattle.kernel.specs.Calls.{Given, givenOf}
-use Rattle.kernel.specs.Laws.Lists.{both}
+use Rattle.sheet.specs.Laws.Lists.{both}
 use Rattle.kernel.specs.Laws.Given.{given-by}
 use Rattle.kernel.specs.Laws.Memory.{given-valid}
 use Rattle.rounds.specs.Running.{Running}
@@ -175,8 +179,25 @@ renamed : (s inputs types others : List ℕ) (at first n k : ℕ) (es trees : Li
     → readEach (readExpression inputs others s 16) others first 0 ≡ got trees n k
 renamed s inputs types others at first n k es trees e p q r = rw (p, q, r) e
 
+-- where a wire starts, by equal names
+restarted : {s inputs types others : List ℕ} {at first n k : ℕ} {es trees : List Expression}
+    {each : readEach (readExpression inputs types s 16) types at 0 ≡ got es n k}
+    {again : readEach (readExpression inputs others s 16) others first 0 ≡ got trees n k} {w place cell : ℕ}
+    → StartsAt (runOf inputs types s at es n k each) w place cell → types ≡ others → es ≡ trees
+    → StartsAt (runOf inputs others s first trees n k again) w place cell
+restarted here p q =
+    record { next = here .next; count = here .count; reads = rw (p, q) at (here .reads); first = rw q at (here .first) }
+
+-- the reads of a wire are those of its tree
+reads-of-tree : (trees : List Expression) (w : ℕ) → readsAt trees w ≡ wiresRead (getD trees w (constant (Boolean false)))
+unfolding readsAt wiresRead
+reads-of-tree [] w = refl
+reads-of-tree (e ∷ es) zero = refl
+reads-of-tree (e ∷ es) (suc w) = reads-of-tree es w
+
 -- where the parts of a sheet that passed the check stand in its bytes, by its counts
-module _ (s memory input output : List ℕ) (given : Given) (e : givenOf s memory input output ≡ result given) where
+module _ (s memory input output places firsts reads : List ℕ) (given : Given) (e : givenOf s memory input output ≡ result given)
+    (drawn : (sheet : Sheet) (n k : ℕ) (v : SheetRead s sheet n k) → Sited (wiresOf v) places firsts reads) where
   abbrev inputCount : ℕ
   inputCount = length (given .sheet .inputTypes)
 
@@ -197,8 +218,9 @@ module _ (s memory input output : List ℕ) (given : Given) (e : givenOf s memor
   firstOf = 3 + inputCount + wiresCount + outputCount
 
   pub record Parts : Type 0 where
-    pub running : Running s memory input typesOf firstOf
+    pub running : Running s memory input typesOf places firsts
     pub same : running .given ≡ given
+    pub reading : (w : ℕ) → w < length typesOf → HoldsJust (getD reads w 0) (readsAt (given .sheet .expressions) w)
     pub outputs : given .sheet .outputs ≡ outputsOf
     pub sized : length typesOf ≡ wiresCount
     pub outputsSized : length outputsOf ≡ outputCount
@@ -213,6 +235,7 @@ module _ (s memory input output : List ℕ) (given : Given) (e : givenOf s memor
       let gi = section-good s 0 0 17 2 false TypeByte (v .inputs) in
       let gw = section-good s (v .inputsEnd) 1 65 2 false TypeByte (v .wires) in
       let go = section-good s (v .wiresEnd) 1 17 (length (before s (v .wiresEnd) (v .wireCount))) true OutputWire (v .outputs) in
+      let map-of = drawn (given .sheet) (length s) (passed .cells) v in
       let inputs = before s (v .inputsEnd) (v .inputCount) in
       let types = before s (v .wiresEnd) (v .wireCount) in
       let outs = before s (v .outputsEnd) (v .outputCount) in
@@ -238,10 +261,12 @@ module _ (s memory input output : List ℕ) (given : Given) (e : givenOf s memor
         running = record {
           given = given;
           inputs = inputs;
+          first = firstOf;
           next = length s;
           count = passed .cells;
           run = renamed s inputs types typesOf (v .outputsEnd) firstOf (length s) (passed .cells) (v .expressions)
               (given .sheet .expressions) (v .each) typesAre at-first trees;
+          starts = λ w l. restarted (map-of .wire w (rw typesAre at l)) (sym typesAre) (sym trees);
           inputTypes = inputTypes;
           wireTypes = rw typesAre wireTypes;
           few = rw typesAre (omega (arith, section-length gw, gw .below));
@@ -254,6 +279,7 @@ module _ (s memory input output : List ℕ) (given : Given) (e : givenOf s memor
           validMemory = valid .memory;
         };
         same = refl;
+        reading = λ w l. rw (trees, reads-of-tree (v .expressions) w) (map-of .read w (rw typesAre at l));
         outputs = outputs ∙ sym outputsAre;
         sized = ap length typesAre ∙ section-length gw ∙ sym nw;
         outputsSized = ap length outputsAre ∙ section-length go ∙ sym no;

@@ -11,13 +11,15 @@ use borrow.Author.Tests.{leb-false, ltb-false, eqb-true, eqb-false}
 use Rattle.sheet.specs.Data.{ValueType, typeOfByte, datumOf}
 use Rattle.sheet.specs.Expressions.{Expression, constant, wire, input, unary, binary, choose, reset, pre, fby}
 use Rattle.sheet.specs.Expressions.{CellForm, preCell, fbyCell, cellForms, cellCount}
-use Rattle.sheet.specs.Kinds.{bodyOf, cellsOf, countOf, operand, operandsOf, limitOf, foundOf, meaningOf}
+use Rattle.sheet.specs.Kinds.{bodyOf, cellsOf, countOf, operand, operandsOf, limitOf, foundOf, meaningOf, kindCount}
 use Rattle.sheet.specs.Readings.{Reading, refused, got, andThen, onRead, readEach, namedAt, bodyAt}
 use Rattle.sheet.specs.Readings.{namesOf, bodyFrom, ownOf, readExpression}
 use Rattle.sheet.specs.Sheets.{formsOf}
+use Rattle.sheet.specs.Memory.{startMemory, ownCell}
 use Rattle.sheet.specs.declared.Refusal.{Refusal}
 use Rattle.sheet.specs.declared.Read.{Read}
 use Rattle.sheet.specs.declared.Read.the-variants.{Refused, Got}
+use Rattle.sheet.specs.declared.Cell.{Cell}
 
 -- A reading that goes on after a part was good in that part.
 pub not-good : {A : Type 0} {why : Refusal} {place n k : ℕ} → Refused why place ≡ Got n k → A
@@ -62,7 +64,7 @@ onRead-got (Got m j) f e = (m, j, refl, e)
 -- what an expression's own bytes show where they are good: behind them stands n, and k cells were counted
 pub record OwnGood (inputs wires s : List ℕ) (level t at c n k : ℕ) : Type 0 where
   pub starts : at < length s
-  pub kind : getD s at 0 < 18
+  pub kind : getD s at 0 < kindCount
   pub levels : 1 ≤ level
   pub cells : c + cellsOf (getD s at 0) ≤ 64
   pub ends : at + 1 + bodyOf (getD s at 0) ≤ length s
@@ -106,7 +108,7 @@ module _ (inputs wires s : List ℕ) where
   own-good level t at c {n} {k} e =
       let kind = getD s at 0 in
       let has-byte = passed (leb (length s) at) _ _ _ e in
-      let has-kind = passed (leb 18 kind) _ _ _ (has-byte .1) in
+      let has-kind = passed (leb kindCount kind) _ _ _ (has-byte .1) in
       let has-level = passed (eqb level 0) _ _ _ (has-kind .1) in
       let has-cell = passed (ltb 64 (c + cellsOf kind)) _ _ _ (has-level .1) in
       let has-body = passed (ltb (length s) (at + 1 + bodyOf kind)) _ _ _ (has-cell .1) in
@@ -163,11 +165,11 @@ kinds-between P {low} rows k above below =
     let e : low + (k - low) ≡ k = omega arith in
     rw e at (row-at P rows (k - low) (omega arith))
 
--- and of each of the 18 rows, of every kind
-pub every-kind : (P : ℕ → Type 0) → Rows P 0 18 → (k : ℕ) → k < 18 → P k
+-- and of each row, of every kind
+pub every-kind : (P : ℕ → Type 0) → Rows P 0 kindCount → (k : ℕ) → k < kindCount → P k
 every-kind P rows k l = rw zero-add at (row-at P rows k l)
 
-pub operands-counted : (t k : ℕ) → k < 18 → length (operandsOf k t) ≡ countOf k
+pub operands-counted : (t k : ℕ) → k < kindCount → length (operandsOf k t) ≡ countOf k
 unfolding operandsOf
 operands-counted t = every-kind (λ k. length (operandsOf k t) ≡ countOf k)
     (refl ▸ refl ▸ refl ▸ refl ▸ refl ▸ refl ▸ refl ▸ refl ▸ refl
@@ -204,7 +206,7 @@ abbrev FormsOfKind : ℕ → Type 0
 FormsOfKind k = (type : ValueType) (body : ℕ) (os : List Expression) → length os ≡ countOf k
     → cellForms (meaningOf k type body os) ≡ ownForms k type body ++ formsOf os
 
-pub forms-of-kind : (k : ℕ) → k < 18 → FormsOfKind k
+pub forms-of-kind : (k : ℕ) → k < kindCount → FormsOfKind k
 unfolding meaningOf cellForms
 forms-of-kind = every-kind FormsOfKind
     (none ▸ none ▸ none ▸ none ▸ one ▸ one ▸ two ▸ two ▸ two ▸ two ▸ two ▸ two
@@ -231,7 +233,19 @@ forms-of-kind = every-kind FormsOfKind
         → fbyCell t ∷ (cellForms (operand os 0) ++ cellForms (operand os 1)) ≡ fbyCell t ∷ formsOf os
     of-fby t b os e = ap (λ fs. fbyCell t ∷ fs) (forms-of-two os e)
 
-pub own-forms-length : (type : ValueType) (body k : ℕ) → k < 18 → length (ownForms k type body) ≡ cellsOf k
+-- where t is asked of a kind and found, the cell that it owns starts as its kind alone says
+pub own-starts : (inputs wires : List ℕ) (t n b k : ℕ) → k < kindCount → foundOf inputs wires t k n ≡ t
+    → startMemory (ownForms k (typeOfByte t) b) ≡ cond (eqb (cellsOf k) 0) [] (ownCell k b ∷ [])
+unfolding startMemory
+own-starts inputs wires t n b = every-kind (λ k. foundOf inputs wires t k n ≡ t
+    → startMemory (ownForms k (typeOfByte t) b) ≡ cond (eqb (cellsOf k) 0) [] (ownCell k b ∷ []))
+    (same ▸ same ▸ same ▸ same ▸ same ▸ same ▸ same ▸ same ▸ same ▸ same ▸ same ▸ same ▸ same ▸ same ▸ same
+    ▸ (λ e. rw (← e)) ▸ (λ e. rw (← e)) ▸ same ▸ end)
+  where
+    same : {A : Type 0} {cells : List Cell} → A → cells ≡ cells
+    same e = refl
+
+pub own-forms-length : (type : ValueType) (body k : ℕ) → k < kindCount → length (ownForms k type body) ≡ cellsOf k
 own-forms-length type body = every-kind (λ k. length (ownForms k type body) ≡ cellsOf k)
     (refl ▸ refl ▸ refl ▸ refl ▸ refl ▸ refl ▸ refl ▸ refl ▸ refl
     ▸ refl ▸ refl ▸ refl ▸ refl ▸ refl ▸ refl ▸ refl ▸ refl ▸ refl ▸ end)

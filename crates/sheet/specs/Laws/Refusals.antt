@@ -9,7 +9,7 @@ use lib.ListN.{length, getD}
 use lib.Dec.{eqb, ltb, leb}
 use borrow.Author.Tests.{leb-false, ltb-true, ltb-false}
 use Rattle.sheet.specs.Expressions.{Expression, CellForm}
-use Rattle.sheet.specs.Kinds.{bodyOf, cellsOf, operandsOf, limitOf, foundOf}
+use Rattle.sheet.specs.Kinds.{bodyOf, cellsOf, operandsOf, limitOf, foundOf, kindCount}
 use Rattle.sheet.specs.Data.{ValueType}
 use Rattle.sheet.specs.Memory.{invalidAt, memoryOf, startOutcome, answerOf, startCall}
 use Rattle.sheet.specs.Rows.{wrongAt, inputsOf}
@@ -103,7 +103,7 @@ module _ (inputs wires s : List ℕ) where
   own-within level t at c =
       by-test (ReadWithin (length s)) (leb (length s) at) (λ e. refused-at s (omega arith) (omega arith)) (λ e.
       let here = leb-false (length s) at e in
-      by-test (ReadWithin (length s)) (leb 18 (getD s at 0)) (λ f. refused-at s (omega arith) (omega arith)) (λ f.
+      by-test (ReadWithin (length s)) (leb kindCount (getD s at 0)) (λ f. refused-at s (omega arith) (omega arith)) (λ f.
       by-test (ReadWithin (length s)) (eqb level 0) (λ g. refused-at s (omega arith) (omega arith)) (λ g.
       by-test (ReadWithin (length s)) (ltb 64 (c + cellsOf (getD s at 0))) (λ h. refused-at s (omega arith) (omega arith)) (λ h.
       by-test (ReadWithin (length s)) (ltb (length s) (at + 1 + bodyOf (getD s at 0))) (λ i. refused-at s (omega arith) (omega arith)) (λ i.

@@ -14,7 +14,7 @@ use mir.Val.{toZ, sel, SFits}
 use Rattle.numbers.specs.Words.{wordAt}
 use Rattle.sheet.specs.Data.{ValueType, boolean, number, typeOfByte, typeOf, IsOf, datumOf}
 use Rattle.sheet.specs.Expressions.{Expression}
-use Rattle.sheet.specs.Kinds.{bodyOf, operand, operandsOf, limitOf, foundOf, meaningOf}
+use Rattle.sheet.specs.Kinds.{bodyOf, operand, operandsOf, limitOf, foundOf, meaningOf, kindCount}
 use Rattle.sheet.specs.Outcomes.{result}
 use Rattle.sheet.specs.Sheets.{Sheet, sheetForms, before, readSheet, sheetOf}
 use Rattle.sheet.specs.Readings.{Reading, refused, got, readEach, namedAt, readExpression}
@@ -71,7 +71,7 @@ module _ (inputs wires : List ℕ) where
       → AllTyped (map typeOfByte (operandsOf k t)) os
       → Typed (typeOfByte t) (meaningOf k (typeOfByte t) (cond (eqb (bodyOf k) 4) word named) os)
 
-  typed-kind : (k : ℕ) → k < 18 → TypedKind k
+  typed-kind : (k : ℕ) → k < kindCount → TypedKind k
   unfolding meaningOf operandsOf HasType
   typed-kind = every-kind TypedKind
       ((λ t w n os l e h. datum-is (typeOfByte t) n)

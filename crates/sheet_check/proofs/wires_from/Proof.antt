@@ -2,12 +2,12 @@
 use mathlib.Core.Path.{refl, sym, _∙_}
 use mathlib.Core.Bool.{false}
 use native.Mathlib.Omega.{arith}
-use borrow.Author.Needs.{needs}
 use Rattle.sheet.specs.declared.Refusal.the-variants.{TypeByte}
 use Rattle.sheet.specs.Sheets.{wiresFrom}
 use Rattle.sheet.specs.Laws.Headers.{SectionGood, section-good}
 use Rattle.sheet_check.proofs.Fields.{span}
-use Rattle.sheet_check.proofs.Forms.{section-types, recorded-refused}
+use Rattle.sheet_check.proofs.Noting.{section-types}
+use borrow.Author.Needs.{needs}
 use Rattle.sheet_check.proofs.wires_from.Statement.{statement}
 use Rattle.sheet_check.proofs.wires_from.Tie as tie
 
@@ -22,10 +22,10 @@ enum-known-next c = search needs
 
 -- the section is good
 ends : (c : tie.After-known-told2)
-    → let a = c .before .before .before .before .before .before .before .args in
+    → let a = c .before .before .before .before .before .before .args in
     let g = c .before .next .given .0 in SectionGood (a .sheet .now) (a .at) 1 65 2 (g .0) (g .1 .0)
 ends c =
-    let a = c .before .before .before .before .before .before .before .args in
+    let a = c .before .before .before .before .before .before .args in
     section-good (a .sheet .now) (a .at) 1 65 2 false TypeByte
     (sym (c .before .before .before .section .ensures) ∙ c .before .next .given .1)
 
@@ -43,22 +43,20 @@ part-outputs-from-end c = ends c .bytes .within
 
 outputs-from-requires : tie.Need-outputs-from-requires
 outputs-from-requires c κs =
-    let g = ends (c .before .before) in
-    (rw (span g) (section-types g), c .before .before .before .before .before .before .before .before .before .pre)
+    let p = c .before .before .before .before .before .before .before .before .before .before .before .pre in
+    let g = ends (c .before .before .before .before .before) in
+    (p .0, rw (span g) (section-types (omega arith) g), p .1, p .2)
 
 returns : tie.Need-returns
 unfolding wiresFrom
-returns c = rw (sym (c .before .before .before .section .ensures) ∙ c .before .why .given .1) (refl, recorded-refused refl)
-
-same-length : tie.Need-same-length
-same-length c = search needs
+returns c = rw (sym (c .before .before .before .section .ensures) ∙ c .before .why .given .1) (refl, tt)
 
 returns-2 : tie.Need-returns-2
 unfolding wiresFrom
 returns-2 c =
-    let good = c .before .before .before .before .before in
+    let good = c .before .before .before .before .before .before in
     rw (sym (good .before .before .before .section .ensures) ∙ good .before .next .given .1)
-    (rw (span (ends good)) at (c .before .before .outputs-from .ensures))
+    (rw (span (ends good)) at (c .outputs-from .ensures))
 
 pub wires-from-spec : {M : Type 1} → statement M
 wires-from-spec =
@@ -73,5 +71,4 @@ wires-from-spec =
     part-outputs-from-end
     outputs-from-requires
     returns
-    same-length
     returns-2)

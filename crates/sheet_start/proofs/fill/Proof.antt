@@ -1,97 +1,65 @@
--- `fill` meets its contract. The loop's invariant: the cells that are still to be met, put from cell k on, make all the bytes. While
--- a byte is missing an expression is still to be met, so that the pass is not at its end.
-use Prim.Native.Nat.{ℕ, _-_, _*_, _<_, _≤_}
+-- `fill` meets its contract. The loop's invariant: the starting bytes of the cells from k on, put there, make all of them.
+use Prim.Native.Nat.{_-_}
 use mathlib.Core.Path.{_≡_, refl, _∙_}
-use mathlib.Core.List.{List}
 use native.Mathlib.Omega.{arith}
 use lib.ListN.{length}
-use Rattle.sheet_start.specs.Scans.{Scan}
 use Rattle.numbers.specs.Laws.{sets-all}
-use Rattle.sheet_start.proofs.Scanning.{Meets, meets, Left, fill-step, fill-end}
+use Rattle.sheet_start.specs.Owners.{Noted}
+use Rattle.sheet_start.proofs.Starting.{start-length, noted-at, Makes, next-put, all-put}
 use Rattle.sheet_start.proofs.fill.Statement.{statement}
 use Rattle.sheet_start.proofs.fill.Tie as tie
 
 abbrev Inv-loop : tie.InvT-loop
-Inv-loop sheet first memory₀ at₀ k₀ memory at k =
-    (length memory ≡ length memory₀)
-    × ((bytes : List ℕ) → Scan sheet first bytes → length bytes ≡ length memory₀ → Left sheet at k memory bytes (length memory₀))
+Inv-loop sheet cells count memory₀ k₀ memory k =
+    (length memory ≡ length memory₀) × ((p : Noted sheet cells count) → Makes p k memory)
 
 abbrev μ-loop : tie.MeasureT-loop
-μ-loop sheet first memory₀ at₀ k₀ memory at k = length sheet - at
-
--- a byte is missing in each turn
-missing : (c : tie.In-loop Inv-loop μ-loop) → 5 * c .before .loop .k < length (c .before .before .before .before .args .memory .now)
-missing c = omega (arith, c .loop-test .taken, c .before .loop .inv .0)
-
--- and an expression is met
-met : (c : tie.In-loop Inv-loop μ-loop)
-    → let left = c .before .loop .inv .1 _ (c .before .before .before .before .pre .scan) (c .before .before .before .before .pre .fits) in
-    Meets (c .before .before .before .before .args .sheet .now) (c .before .loop .at) (c .before .loop .k)
-    (length (c .before .before .before .before .args .memory .now)) (left .rest)
-met c =
-    let p = c .before .before .before .before .pre in
-    let left = c .before .loop .inv .1 _ (p .scan) (p .fits) in
-    meets (c .before .before .before .before .args .sheet .now) (c .before .loop .k) _ (left .scan) (missing c) (left .fits)
+μ-loop sheet cells count memory₀ k₀ memory k = count - k
 
 loop-holds : tie.Need-loop-holds Inv-loop μ-loop
-loop-holds c = (refl, λ bytes scan fits. record { rest = bytes; scan = scan; makes = sets-all bytes _ fits; fits = omega arith })
+loop-holds c =
+    (refl, λ p. sets-all _ _ (start-length (p .forms) ∙ omega (arith, p .counted, c .before .before .pre .1)))
 
-mul-loop : tie.Need-mul-loop Inv-loop μ-loop
-mul-loop c =
-    let p = c .before .before .before .pre in
-    omega (arith, c .loop .inv .1 _ (p .scan) (p .fits) .fits, c .before .before .before .good)
+mul-owner : tie.Need-mul-owner Inv-loop μ-loop
+mul-owner c = omega arith
 
-shared-slice-read-kind : tie.Need-shared-slice-read-kind Inv-loop μ-loop
-shared-slice-read-kind c = omega (arith, met (c .before) .whole .ends)
+element-copy-out-owner : tie.Need-element-copy-out-owner Inv-loop μ-loop
+element-copy-out-owner c = omega (arith, c .before .before .before .before .pre .0 .few)
 
-put-own-requires : tie.Need-put-own-requires Inv-loop μ-loop
-put-own-requires c κs =
-    let m = met (c .before .before) in
-    (m .whole, omega (arith, m .own, m .room))
+cast-owner : tie.Need-cast-owner Inv-loop μ-loop
+cast-owner c =
+    let start = c .before .before .before .before .before in
+    omega (arith, noted-at (start .pre .0) (c .before .before .loop .k) (c .before .loop-test .taken) .owner .ends, start .good)
 
-cells-requires : tie.Need-cells-requires Inv-loop μ-loop
-cells-requires c κs = met (c .before .before .before .before .before) .whole .kind
+own-cell-requires : tie.Need-own-cell-requires Inv-loop μ-loop
+own-cell-requires c κs =
+    noted-at (c .before .before .before .before .before .before .pre .0) _ (c .before .before .loop-test .taken) .owner
+
+put-cell-requires : tie.Need-put-cell-requires Inv-loop μ-loop
+put-cell-requires c κs =
+    let start = c .before .before .before .before .before .before .before in
+    omega (arith, start .pre .1, c .before .before .before .before .loop .inv .0, c .before .before .before .loop-test .taken)
 
 add-k : tie.Need-add-k Inv-loop μ-loop
-add-k c =
-    omega (
-      arith,
-      met (c .before .before .before .before .before .before) .room,
-      c .cells .ensures,
-      c .before .before .before .before .before .before .before .before .before .before .good,
-    )
-
-add-at : tie.Need-add-at Inv-loop μ-loop
-add-at c = omega (arith, met (c .before .before .before .before .before .before) .whole .ends)
-
-body-requires : tie.Need-body-requires Inv-loop μ-loop
-body-requires c κs = met (c .before .before .before .before .before .before) .whole .kind
-
-add-at-2 : tie.Need-add-at-2 Inv-loop μ-loop
-add-at-2 c = omega (arith, met (c .before .before .before .before .before .before .before) .whole .ends, c .body .ensures)
+add-k c = omega arith
 
 loop-less : tie.Need-loop-less Inv-loop μ-loop
-loop-less c = omega (arith, met (c .before .before .before .before .before .before .before) .whole .ends)
+loop-less c = omega (arith, c .before .before .before .before .before .before .loop-test .taken)
 
 loop-again : tie.Need-loop-again Inv-loop μ-loop
 loop-again c =
-    let l = c .before .before .before .before .before .before .before .before .loop in (
-      c .before .before .before .before .put-own .kept .1 .1 .0 ∙ l .inv .0,
-      λ bytes scan fits.
-          fill-step (c .before .before .before .before .before .before .before .before .before .before .before .args .sheet .now)
-          (l .memory) _ bytes (l .at) (l .k) (c .before .cells .result) (c .body .result) _
-          (missing (c .before .before .before .before .before .before .before)) (c .before .cells .ensures) (c .body .ensures)
-          (c .before .before .before .before .put-own .ensures) (l .inv .1 bytes scan fits),
+    let put = c .before .before in
+    let turn = put .before .before .before .before in
+    let l = turn .before .loop in (
+      put .put-cell .kept .0 ∙ l .inv .0,
+      λ p. next-put p (l .k) (l .memory) _ _ (turn .loop-test .taken) (put .before .own-cell .ensures) (put .put-cell .ensures) (l .inv .1 p),
     )
 
 same-length : tie.Need-same-length Inv-loop μ-loop
 same-length c = c .before .loop .inv .0
 
 returns : tie.Need-returns Inv-loop μ-loop
-returns c = λ bytes scan fits.
-    let l = c .before .loop in
-    let full : length (c .before .before .before .before .args .memory .now) ≤ 5 * l .k = omega (arith, c .loop-test .left, l .inv .0) in
-    fill-end full (l .inv .1 bytes scan fits)
+returns c = λ p. all-put p (c .before .loop .k) _ (c .loop-test .left) (c .before .loop .inv .1 p)
 
 pub fill-spec : {M : Type 1} → statement M
 fill-spec =
@@ -100,14 +68,12 @@ fill-spec =
     Inv-loop
     μ-loop
     loop-holds
-    mul-loop
-    shared-slice-read-kind
-    put-own-requires
-    cells-requires
+    mul-owner
+    element-copy-out-owner
+    cast-owner
+    own-cell-requires
+    put-cell-requires
     add-k
-    add-at
-    body-requires
-    add-at-2
     loop-less
     loop-again
     same-length

@@ -2,7 +2,7 @@
 use native.Mathlib.Omega.{arith}
 use borrow.Author.Tests.{eq-eqb, ne-eqb}
 use borrow.Author.Needs.{needs}
-use Rattle.sheet_start.proofs.Scanning.{own-length}
+use Rattle.sheet_start.proofs.Starting.{own-length}
 use Rattle.sheet_start.proofs.put_own.Statement.{statement}
 use Rattle.sheet_start.proofs.put_own.Tie as tie
 

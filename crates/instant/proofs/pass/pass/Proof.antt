@@ -2,17 +2,18 @@
 use Prim.Native.Nat.{_-_, _≤_}
 use native.Mathlib.Omega.{arith}
 use lib.ListN.{length}
+use borrow.Author.Needs.{needs}
 use Rattle.instant.specs.Along.{Along}
 use Rattle.instant.proofs.Passing.{Sofar, unpassed, placed, further, passed}
 use Rattle.instant.proofs.pass.pass.Statement.{statement}
 use Rattle.instant.proofs.pass.pass.Tie as tie
 
 abbrev Inv-loop : tie.InvT-loop
-Inv-loop sheet memory input types places firsts list words₀ memory₁ input₁ known₀ p₀ words known p =
-    (p ≤ length list) × ((a : Along sheet memory input types places firsts list words₀) → Sofar a p (known .bits) words)
+Inv-loop sheet t2 t3 types places firsts list words₀ memory input known₀ p₀ words known p =
+    (p ≤ length list) × ((a : Along sheet t2 t3 types places firsts list words₀) → Sofar a p (known .bits) words)
 
 abbrev μ-loop : tie.MeasureT-loop
-μ-loop sheet memory input types places firsts list words₀ memory₁ input₁ known₀ p₀ words known p = length list - p
+μ-loop sheet t2 t3 types places firsts list words₀ memory input known₀ p₀ words known p = length list - p
 
 -- where the function begins, from a turn of the loop
 abbrev start : tie.In-loop Inv-loop μ-loop → tie.Start Inv-loop μ-loop
@@ -30,45 +31,45 @@ shared-slice-read-w c = omega arith
 cast-w : tie.Need-cast-w Inv-loop μ-loop
 cast-w c = omega (arith, c .shared-slice-known6 .given (c .before .before .loop .p))
 
+mul-place : tie.Need-mul-place Inv-loop μ-loop
+mul-place c = omega (arith, c .shared-slice-known6 .given (c .before .before .loop .p))
+
+element-copy-out-place : tie.Need-element-copy-out-place Inv-loop μ-loop
+element-copy-out-place c =
+    let t = c .before in
+    omega (arith, start t .pre .running .few, start t .pre .wires (t .before .loop .p) (t .loop-test .taken))
+
+place-requires : tie.Need-place-requires Inv-loop μ-loop
+place-requires c κs = search needs
+
+element-copy-out-first : tie.Need-element-copy-out-first Inv-loop μ-loop
+element-copy-out-first c =
+    let t = c .before .before .before in
+    omega (arith, start t .pre .running .few, start t .pre .wires (t .before .loop .p) (t .loop-test .taken))
+
+first-requires : tie.Need-first-requires Inv-loop μ-loop
+first-requires c κs = search needs
+
 shared-slice-read-value-expression : tie.Need-shared-slice-read-value-expression Inv-loop μ-loop
 shared-slice-read-value-expression c =
-    let t = c .before .before .before .before .before in start t .pre .wires (t .before .loop .p) (t .loop-test .taken)
-
-mul-value-expression : tie.Need-mul-value-expression Inv-loop μ-loop
-mul-value-expression c =
-    omega (arith, c .before .before .before .before .shared-slice-known6 .given (c .before .before .before .before .before .before .loop .p))
-
-element-copy-out-value-expression : tie.Need-element-copy-out-value-expression Inv-loop μ-loop
-element-copy-out-value-expression c =
-    let t = c .before .before .before .before .before in
-    omega (arith, start t .pre .running .few, start t .pre .wires (t .before .loop .p) (t .loop-test .taken))
-
-mul-value-expression-2 : tie.Need-mul-value-expression-2 Inv-loop μ-loop
-mul-value-expression-2 c =
-    let t = c .before .before .before .before .before .before in
-    omega (arith, c .before .before .before .before .before .shared-slice-known6 .given (t .before .loop .p))
-
-element-copy-out-value-expression-2 : tie.Need-element-copy-out-value-expression-2 Inv-loop μ-loop
-element-copy-out-value-expression-2 c =
-    let t = c .before .before .before .before .before .before in
-    omega (arith, start t .pre .running .few, start t .pre .wires (t .before .loop .p) (t .loop-test .taken))
+    let t = c .before .before .before .before .before .before .before .before .before in start t .pre .wires (t .before .loop .p) (t .loop-test .taken)
 
 value-expression-requires : tie.Need-value-expression-requires Inv-loop μ-loop
 value-expression-requires c κs =
-    let t = c .before .before .before .before .before .before .before in
+    let t = c .before .before .before .before .before .before .before .before .before in
     let a = start t .pre in
-    placed a (t .before .loop .inv .1 a) (t .loop-test .taken)
+    placed a (t .before .loop .inv .1 a) (t .loop-test .taken) (c .before .before .before .before .before .before .place .ensures) (c .before .before .before .before .first .ensures)
 
 put-value-requires : tie.Need-put-value-requires Inv-loop μ-loop
 put-value-requires c κs =
-    let t = c .before .before .before .before .before .before .before .before .before in
+    let t = c .before .before .before .before .before .before .before .before .before .before .before in
     let a = start t .pre in
     let inside = a .wires (t .before .loop .p) (t .loop-test .taken) in
     (omega (arith, inside, a .running .few), omega (arith, inside, t .before .loop .inv .1 a .holds .room))
 
 add-p : tie.Need-add-p Inv-loop μ-loop
 add-p c =
-    let t = c .before .before .before .before .before .before .before .before .before .before in
+    let t = c .before .before .before .before .before .before .before .before .before .before .before .before in
     omega (arith, t .loop-test .taken, start t .good .1 .1 .1 .1 .1 .1 .0)
 
 loop-less : tie.Need-loop-less Inv-loop μ-loop
@@ -76,12 +77,14 @@ loop-less c = omega arith
 
 loop-again : tie.Need-loop-again Inv-loop μ-loop
 loop-again c =
-    let t = c .before .before .before .before .before .before .before .before .before .before in
+    let t = c .before .before .before .before .before .before .before .before .before .before .before .before in
     let i = t .before .loop .inv in
+    let more = t .loop-test .taken in
+    let at-is = c .before .before .before .before .before .before .before .before .before .place .ensures in
+    let cell-is = c .before .before .before .before .before .before .before .first .ensures in
     let v = c .before .before .value-expression in (
       omega arith,
-      λ a. further a (i .1 a) (t .loop-test .taken) (v .result) (v .ensures (placed a (i .1 a) (t .loop-test .taken)))
-          (c .put-value .ensures),
+      λ a. further a (i .1 a) more at-is cell-is (v .result) (v .ensures (placed a (i .1 a) more at-is cell-is)) (c .put-value .ensures),
     )
 
 returns : tie.Need-returns Inv-loop μ-loop
@@ -97,11 +100,12 @@ pass-spec =
     loop-holds
     shared-slice-read-w
     cast-w
+    mul-place
+    element-copy-out-place
+    place-requires
+    element-copy-out-first
+    first-requires
     shared-slice-read-value-expression
-    mul-value-expression
-    element-copy-out-value-expression
-    mul-value-expression-2
-    element-copy-out-value-expression-2
     value-expression-requires
     put-value-requires
     add-p

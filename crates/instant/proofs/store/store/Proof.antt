@@ -1,32 +1,51 @@
 -- `store` meets its contract. The loop's invariant: the wires below w have stored their cells.
 use Prim.Native.Nat.{_-_, _≤_}
-use mathlib.Core.Path.{_≡_, refl, _∙_}
+use mathlib.Core.Logic.{⊎-elim}
+use mathlib.Core.Path.{_≡_, refl, ap, _∙_}
 use native.Mathlib.Omega.{arith}
 use lib.ListN.{length}
+use borrow.Author.Needs.{needs}
 use Rattle.instant.specs.Settled.{Settled}
-use Rattle.instant.proofs.Storing.{Stored, unstored, ready, one-stored, all-stored}
+use Rattle.instant.proofs.Storing.{Stored, unstored, ready, one-stored, none-stored, all-stored}
 use Rattle.instant.proofs.store.store.Statement.{statement}
 use Rattle.instant.proofs.store.store.Tie as tie
 
 abbrev Inv-loop : tie.InvT-loop
-Inv-loop sheet memory₀ input types first known words input₁ at₀ cell₀ w₀ memory at cell w =
+Inv-loop sheet memory₀ t3 types places firsts known words input w₀ memory w =
     (w ≤ length types) × (length memory ≡ length memory₀)
-    × ((f : Settled sheet memory₀ input types first (known .bits) words) → Stored f w at cell memory)
+    × ((f : Settled sheet memory₀ t3 types places firsts (known .bits) words) → Stored f w memory)
 
 abbrev μ-loop : tie.MeasureT-loop
-μ-loop sheet memory₀ input types first known words input₁ at₀ cell₀ w₀ memory at cell w = length types - w
+μ-loop sheet memory₀ t3 types places firsts known words input w₀ memory w = length types - w
 
 loop-holds : tie.Need-loop-holds Inv-loop μ-loop
 loop-holds c = (omega arith, refl, λ f. unstored f)
 
-shared-slice-read-advance-expression :
-    tie.Need-shared-slice-read-advance-expression Inv-loop μ-loop
+may-own-requires : tie.Need-may-own-requires Inv-loop μ-loop
+may-own-requires c κs = (omega arith, c .before .before .before .before .before .before .pre .running .few)
+
+mul-place : tie.Need-mul-place Inv-loop μ-loop
+mul-place c = search needs
+
+element-copy-out-place : tie.Need-element-copy-out-place Inv-loop μ-loop
+element-copy-out-place c = omega (arith, c .before .before .before .before .before .before .before .before .pre .running .few)
+
+place-requires : tie.Need-place-requires Inv-loop μ-loop
+place-requires c κs = search needs
+
+element-copy-out-first : tie.Need-element-copy-out-first Inv-loop μ-loop
+element-copy-out-first c = omega (arith, c .before .before .before .before .before .before .before .before .before .before .pre .running .few)
+
+first-requires : tie.Need-first-requires Inv-loop μ-loop
+first-requires c κs = search needs
+
+shared-slice-read-advance-expression : tie.Need-shared-slice-read-advance-expression Inv-loop μ-loop
 shared-slice-read-advance-expression c = omega arith
 
 advance-expression-requires : tie.Need-advance-expression-requires Inv-loop μ-loop
 advance-expression-requires c κs =
-    let f = c .before .before .before .before .before .before .before .before .before .pre in
-    ready f (c .before .before .before .before .loop .inv .2 f) (c .before .before .before .loop-test .taken)
+    let f = c .before .before .before .before .before .before .before .before .before .before .before .before .before .before .before .pre in
+    ready f (c .before .before .before .before .before .before .before .before .before .before .loop .inv .2 f) (c .before .before .before .before .before .before .before .before .before .loop-test .taken) (c .before .before .before .before .before .place .ensures) (c .before .before .before .first .ensures)
 
 add-w : tie.Need-add-w Inv-loop μ-loop
 add-w c = omega arith
@@ -36,12 +55,16 @@ loop-less c = omega arith
 
 loop-again : tie.Need-loop-again Inv-loop μ-loop
 loop-again c =
-    let l = c .before .before .before .before .before .before .before .loop in
-    let more = c .before .before .before .before .before .before .loop-test .taken in
-    let v = c .before .before .advance-expression in (
+    let l = c .before .before .before .loop in
+    let more = c .before .before .loop-test .taken in (
       omega arith,
-      v .kept .1 .1 .0 ∙ l .inv .1,
-      λ f. one-stored f (l .inv .2 f) more (v .result) (v .ensures (ready f (l .inv .2 f) more)),
+      ⊎-elim (λ w. ap length (w .11) ∙ w .8 .kept .1 .1 .0) (λ w. ap length (w .1)) (c .if1 .came) ∙ l .inv .1,
+      λ f.
+          ⊎-elim
+          (λ w. rw (w .11) (one-stored f (l .inv .2 f) more (w .2 .ensures) (w .4 .ensures) (w .8 .result)
+          (w .8 .ensures (ready f (l .inv .2 f) more (w .2 .ensures) (w .4 .ensures)))))
+          (λ w. rw (w .1) (none-stored f (l .inv .2 f) (c .before .may-own .ensures (w .0 .left))))
+          (c .if1 .came),
     )
 
 same-length : tie.Need-same-length Inv-loop μ-loop
@@ -57,6 +80,12 @@ store-spec =
     Inv-loop
     μ-loop
     loop-holds
+    may-own-requires
+    mul-place
+    element-copy-out-place
+    place-requires
+    element-copy-out-first
+    first-requires
     shared-slice-read-advance-expression
     advance-expression-requires
     add-w

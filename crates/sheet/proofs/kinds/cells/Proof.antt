@@ -2,7 +2,7 @@
 use mathlib.Core.Path.{refl, _∙_}
 use borrow.Author.Needs.{needs}
 use Rattle.sheet.specs.Kinds.{cellsOf}
-use Rattle.sheet.proofs.Table.{sameColumn, column-is}
+use Rattle.sheet.proofs.Table.{passes, column-is}
 use Rattle.sheet.proofs.kinds.cells.Statement.{statement}
 use Rattle.sheet.proofs.kinds.cells.Tie as tie
 
@@ -13,8 +13,8 @@ cast-result : tie.Need-cast-result
 cast-result c = search needs
 
 returns : tie.Need-returns
-unfolding sameColumn
-returns c = c .digit .ensures ∙ column-is 0o111000000000000000 cellsOf refl (c .before .args .kind) (c .before .pre)
+unfolding passes
+returns c = c .digit .ensures ∙ column-is _ cellsOf refl (c .before .args .kind) (c .before .pre)
 
 pub cells-spec : {M : Type 1} → statement M
 cells-spec = tie.close (tie.spec digit-requires cast-result returns)

@@ -2,7 +2,7 @@
 use mathlib.Core.Path.{refl, _∙_}
 use borrow.Author.Needs.{needs}
 use Rattle.sheet.specs.Kinds.{ownTypeOf}
-use Rattle.sheet.proofs.Table.{sameColumn, column-is}
+use Rattle.sheet.proofs.Table.{passes, column-is}
 use Rattle.sheet.proofs.kinds.own_type.Statement.{statement}
 use Rattle.sheet.proofs.kinds.own_type.Tie as tie
 
@@ -10,8 +10,8 @@ digit-requires : tie.Need-digit-requires
 digit-requires c κs = search needs
 
 returns : tie.Need-returns
-unfolding sameColumn
-returns c = c .digit .ensures ∙ column-is 0o410444001100106510 ownTypeOf refl (c .before .args .kind) (c .before .pre)
+unfolding passes
+returns c = c .digit .ensures ∙ column-is _ ownTypeOf refl (c .before .args .kind) (c .before .pre)
 
 pub own-type-spec : {M : Type 1} → statement M
 own-type-spec = tie.close (tie.spec digit-requires returns)

@@ -1,0 +1,68 @@
+-- Worked cases of the whole text, computed from the bytes: document 01's quarter sheet, inputs that are too short, refusals.
+-- What the lines are in bytes stands in the cases of `lines`.
+use Prim.Native.Nat.{ℕ}
+use mathlib.Core.Path.{_≡_, refl}
+use mathlib.Core.List.{List, [], _∷_, _++_}
+use lib.IntN.{pos}
+use Rattle.numbers.specs.Numbers.{lowBits, settled, equals}
+use Rattle.sheet.specs.Examples.{quarterBytes}
+use Rattle.sheet.specs.Expressions.{cellForms, cellCount}
+use Rattle.sheet.specs.Kinds.{meaningOf, operandsOf}
+use Rattle.sheet.specs.Outcomes.{lowest}
+use Rattle.sheet.specs.Readings.{readEach, namesOf, bodyFrom, ownOf, readExpression}
+use Rattle.sheet.specs.Headers.{fieldOf, bytesOf, sectionOf}
+use Rattle.sheet.specs.Sheets.{formsOf, outputsFrom, wiresFrom, readSheet, sheetOf}
+use Rattle.sheet.specs.Memory.{memoryBytes, invalidAt, cellsFrom, memoryOf, startMemory, startOutcome, startCall}
+use Rattle.sheet.specs.Rows.{rowBytes, wrongAt, dataFrom, inputsOf}
+use Rattle.kernel.specs.Equality.{sameDatum, sameValue, sameValues}
+use Rattle.kernel.specs.Instant.{value, kept, stored}
+use Rattle.kernel.specs.Systems as System
+use Rattle.kernel.specs.Instants.{valueOfWire, values, storedCells, round, rounds, finished, nextMemory, outputRow}
+use Rattle.kernel.specs.Calls.{givenOf, placeOfUnknown, acceptedOf, inRounds, roundsCall}
+use Rattle.lines.specs.Lines.{shortLine, refusedLine, sheetLine, leftLine, rowLine, numbersOf}
+use Rattle.play.specs.Text.{played, instantsText, bytesText, playText}
+
+-- an input row of two entries
+abbrev pair : ℕ → ℕ → List ℕ
+pair a b = a ∷ 0 ∷ 0 ∷ 0 ∷ b ∷ 0 ∷ 0 ∷ 0 ∷ []
+
+-- the quarter sheet behind its length
+abbrev quarter : List ℕ
+quarter = 40 ∷ 0 ∷ quarterBytes
+
+-- the block of document 01; no byte, and a sheet that lacks one; a sheet of no bytes; no row, and one that is not whole; a row with a
+-- 2 for a Boolean, and one behind it; case B
+texts :
+    playText (quarter ++ pair 1 0 ++ pair 1 0 ++ pair 1 1 ++ pair 0 0 ++ pair 0 1)
+    ∷ playText []
+    ∷ playText (2 ∷ 0 ∷ 1 ∷ [])
+    ∷ playText (0 ∷ 0 ∷ [])
+    ∷ playText quarter
+    ∷ playText (quarter ++ 1 ∷ 0 ∷ 0 ∷ [])
+    ∷ playText (quarter ++ pair 1 2 ++ pair 0 0)
+    ∷ playText (7 ∷ 0 ∷ 0 ∷ 1 ∷ 1 ∷ 1 ∷ 0 ∷ 2 ∷ 0 ∷ [])
+    ∷ []
+    ≡ (sheetLine 2 2 2 2
+    ∷ rowLine 0 (pos 1 ∷ pos 0 ∷ [])
+    ∷ rowLine 1 (pos 2 ∷ pos 1 ∷ [])
+    ∷ rowLine 2 (pos 1 ∷ pos 2 ∷ [])
+    ∷ rowLine 3 (pos 1 ∷ pos 1 ∷ [])
+    ∷ rowLine 4 (pos 0 ∷ pos 1 ∷ [])
+    ∷ leftLine 0
+    ∷ [])
+    ∷ (shortLine ∷ [])
+    ∷ (shortLine ∷ [])
+    ∷ (refusedLine 1 0 ∷ [])
+    ∷ (sheetLine 2 2 2 2 ∷ leftLine 0 ∷ [])
+    ∷ (sheetLine 2 2 2 2 ∷ leftLine 3 ∷ [])
+    ∷ (sheetLine 2 2 2 2 ∷ refusedLine 15 1 ∷ [])
+    ∷ (sheetLine 0 1 1 0 ∷ refusedLine 20 0 ∷ [])
+    ∷ []
+unfolding lowBits settled equals cellForms cellCount meaningOf operandsOf lowest
+    readEach namesOf bodyFrom ownOf readExpression fieldOf bytesOf sectionOf formsOf outputsFrom wiresFrom readSheet sheetOf
+    memoryBytes invalidAt cellsFrom memoryOf startMemory startOutcome startCall rowBytes wrongAt dataFrom inputsOf
+    sameDatum sameValue sameValues value kept stored
+    System.after System.unchanged System.rounds System.finished
+    valueOfWire values storedCells round rounds finished nextMemory outputRow
+    givenOf placeOfUnknown acceptedOf inRounds roundsCall numbersOf played instantsText bytesText
+texts = refl

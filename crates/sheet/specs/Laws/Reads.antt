@@ -1,0 +1,57 @@
+-- What an expression reads, by its kind: what it names itself, and what those of its operands read that are read within the instant.
+use Prim.Native.Nat.{ℕ, _≤_, _<_}
+use mathlib.Core.Path.{_≡_, refl, sym, ap}
+use mathlib.Core.List.{List, [], _∷_, _++_, append-nil}
+use native.Mathlib.Omega.{arith}
+use lib.ListN.{length, take}
+use Rattle.sheet.specs.Data.{ValueType}
+use Rattle.sheet.specs.Expressions.{Expression}
+use Rattle.sheet.specs.Kinds.{kindCount, countOf, readCountOf, operand, meaningOf}
+use Rattle.sheet.specs.Reads.{wiresRead, allRead, wiresNamed}
+use Rattle.sheet.specs.Laws.Readings.{every-kind, _▸_, end}
+
+reads-none : (os : List Expression) → [] ≡ allRead (take 0 os)
+unfolding allRead
+reads-none os = refl
+
+reads-one : (os : List Expression) → 1 ≤ length os → wiresRead (operand os 0) ≡ allRead (take 1 os)
+unfolding allRead
+reads-one [] l = absurd (omega arith)
+reads-one (a ∷ os) l = sym (append-nil (wiresRead a))
+
+reads-two : (os : List Expression) → length os ≡ 2 → wiresRead (operand os 0) ++ wiresRead (operand os 1) ≡ allRead (take 2 os)
+unfolding allRead
+reads-two [] e = absurd (omega arith)
+reads-two (a ∷ os) e = ap (λ ws. wiresRead a ++ ws) (reads-one os (omega arith))
+
+reads-three : (os : List Expression) → length os ≡ 3
+    → wiresRead (operand os 0) ++ (wiresRead (operand os 1) ++ wiresRead (operand os 2)) ≡ allRead (take 3 os)
+unfolding allRead
+reads-three [] e = absurd (omega arith)
+reads-three (a ∷ os) e = ap (λ ws. wiresRead a ++ ws) (reads-two os (omega arith))
+
+pub reads-of-kind : (k : ℕ) → k < kindCount → (t : ValueType) (body : ℕ) (os : List Expression) → length os ≡ countOf k
+    → wiresRead (meaningOf k t body os) ≡ wiresNamed k body ++ allRead (take (readCountOf k) os)
+unfolding wiresRead meaningOf
+reads-of-kind = every-kind (λ k. (t : ValueType) (body : ℕ) (os : List Expression) → length os ≡ countOf k
+    → wiresRead (meaningOf k t body os) ≡ wiresNamed k body ++ allRead (take (readCountOf k) os))
+    (none ▸ none ▸ (λ t b os e. ap (λ ws. b ∷ ws) (reads-none os)) ▸ none
+    ▸ one ▸ one ▸ two ▸ two ▸ two ▸ two ▸ two ▸ two ▸ three ▸ three ▸ two
+    ▸ delayed ▸ delayed ▸ (λ t b os e. reads-one os (omega arith)) ▸ end)
+  where
+    none : ValueType → ℕ → (os : List Expression) → length os ≡ 0 → [] ≡ allRead (take 0 os)
+    none t b os e = reads-none os
+
+    one : ValueType → ℕ → (os : List Expression) → length os ≡ 1 → wiresRead (operand os 0) ≡ allRead (take 1 os)
+    one t b os e = reads-one os (omega arith)
+
+    two : ValueType → ℕ → (os : List Expression) → length os ≡ 2
+        → wiresRead (operand os 0) ++ wiresRead (operand os 1) ≡ allRead (take 2 os)
+    two t b = reads-two
+
+    three : ValueType → ℕ → (os : List Expression) → length os ≡ 3
+        → wiresRead (operand os 0) ++ (wiresRead (operand os 1) ++ wiresRead (operand os 2)) ≡ allRead (take 3 os)
+    three t b = reads-three
+
+    delayed : ValueType → ℕ → (os : List Expression) → length os ≡ 1 → [] ≡ allRead (take 0 os)
+    delayed t b os e = reads-none os

@@ -1,0 +1,38 @@
+-- What an expression reads within the instant: the wires and the inputs that it names, but not anywhere under a pre's operand or an
+-- fby's right operand.
+use Prim.Native.Nat.{ℕ}
+use mathlib.Core.Bool.{cond}
+use mathlib.Core.List.{List, [], _∷_, _++_}
+use lib.Dec.{eqb}
+use Rattle.sheet.specs.Expressions.{Expression, constant, wire, input, unary, binary, choose, reset, pre, fby}
+
+unfoldable pub wiresRead : Expression → List ℕ
+wiresRead (constant d) = []
+wiresRead (wire w) = w ∷ []
+wiresRead (input i) = []
+wiresRead (unary o a) = wiresRead a
+wiresRead (binary o a b) = wiresRead a ++ wiresRead b
+wiresRead (choose o c a b) = wiresRead c ++ (wiresRead a ++ wiresRead b)
+wiresRead (reset c a) = wiresRead c ++ wiresRead a
+wiresRead (pre d a) = []
+wiresRead (fby t a b) = wiresRead a
+
+-- what several expressions read, one after the other
+unfoldable pub allRead : List Expression → List ℕ
+allRead [] = []
+allRead (e ∷ es) = wiresRead e ++ allRead es
+
+-- the wire that an expression of kind k itself names, by the number in its body
+abbrev pub wiresNamed : ℕ → ℕ → List ℕ
+wiresNamed k body = cond (eqb k 2) (body ∷ []) []
+
+unfoldable pub inputsRead : Expression → List ℕ
+inputsRead (constant d) = []
+inputsRead (wire w) = []
+inputsRead (input i) = i ∷ []
+inputsRead (unary o a) = inputsRead a
+inputsRead (binary o a b) = inputsRead a ++ inputsRead b
+inputsRead (choose o c a b) = inputsRead c ++ (inputsRead a ++ inputsRead b)
+inputsRead (reset c a) = inputsRead c ++ inputsRead a
+inputsRead (pre d a) = []
+inputsRead (fby t a b) = inputsRead a

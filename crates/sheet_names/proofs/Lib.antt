@@ -1,0 +1,3 @@
+-- The laws that the proofs of the two functions that make the names cite.
+pub mod Numbers
+pub mod Names

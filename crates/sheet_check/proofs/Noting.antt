@@ -33,7 +33,7 @@ use Rattle.sheet.specs.declared.Read.the-variants.{Refused, Got}
 use Rattle.sheet.specs.declared.Cell.the-variants.{NotStarted, Started}
 use Rattle.sheet_check.specs.Map.{TypeBytes, ownEntries, CellNoted, Entered, Joins, Checks, LeafChecks}
 use Rattle.sheet_check.proofs.Steps.{own-refused, own-passed, by-operands, is-got}
-use Rattle.sheet_check.proofs.Nodes.{leaf-operands, leaf-forms, leaf-reads, plain-cells}
+use Rattle.sheet_check.proofs.Nodes.{leaf-operands, leaf-forms, leaf-reads}
 
 -- the type bytes of a section
 pub section-types : {s : List ℕ} {at fewest excess n k : ℕ} → excess ≤ 65 → SectionGood s at fewest excess 2 n k → TypeBytes (before s n k)
@@ -267,11 +267,6 @@ whole-checks inputs wires s (suc l) t at c {n} {k} {bits} {joint} {answer} {firs
           rw (sub-one, ← next-is, ← count-is) (v .each),
           run-extent inputs wires s l (operandsOf kind t) (v .first) (v .before) (v .each) .sized ∙ operands-counted t kind (v .good .kind),
         )
-
--- an expression that owns no cell has no entry
-pub plain-entries : (s : List ℕ) (t at c : ℕ) {first : List ℕ} → 4 ≤ getD s at 0 → getD s at 0 < 15
-    → first ≡ sets first c (ownEntries (getD s at 0) t at)
-plain-entries s t at c node plain = rw (plain-cells (getD s at 0) node plain)
 
 -- where nothing is asked nothing is read
 none-asked : (read : ℕ → ℕ → ℕ → Reading Expression) (ts : List ℕ) (at c : ℕ) → length ts ≡ 0 → Got at c ≡ erased (readEach read ts at c)

@@ -94,6 +94,22 @@ fn check_cell(sheet: &[u8], at: usize, count: usize) -> Read
     }
 }
 
+// What the own bytes of the expression at `at`, which has operands, are refused for; 9 comes behind it.
+fn check_own(sheet: &[u8], at: usize, count: usize) -> Read
+    requires { ⌜ (at < length (now sheet)) × (4 ≤ getD (now sheet) at 0) × (getD (now sheet) at 0 < kindCount) × (count ≤ 64) ⌝ }
+    requires { ⌜ length (now sheet) ≤ 4096 ⌝ }
+    ensures { λ r. ⌜ ((inputs wires : List ℕ) (asked : ℕ)
+        → thenType (getD (now (sheet .entry)) at 0) asked at r ≡ bodyFrom inputs wires (now (sheet .entry)) asked at count) ⌝ }
+{
+    if sheet[at] < 15 {
+        return Read::Got {
+            next: at + 1,
+            count,
+        };
+    }
+    check_cell(sheet, at, count)
+}
+
 // Notes the cell that an expression of this kind at `at` owns, behind `count` others: an fby has no body.
 fn note_cell(kind: u8, asked: u8, at: usize, count: usize, cells: &mut [u16; 64])
     requires { ⌜ (15 ≤ kind) × (kind < kindCount) × (asked < 2) × (at < 4096) × (count < 64) ⌝ }
@@ -103,6 +119,16 @@ fn note_cell(kind: u8, asked: u8, at: usize, count: usize, cells: &mut [u16; 64]
         cells[count] = (4 * at + wide(asked) + 2) as u16;
     } else {
         cells[count] = (4 * at + wide(asked)) as u16;
+    }
+}
+
+// Notes the cell that an expression of this kind at `at` owns, if it owns one.
+fn note_own(kind: u8, asked: u8, at: usize, count: usize, cells: &mut [u16; 64])
+    requires { ⌜ (4 ≤ kind) × (kind < kindCount) × (asked < 2) × (at < 4096) × (15 ≤ kind → count < 64) ⌝ }
+    ensures { λ _. ⌜ now (cells .exit) ≡ sets (now (cells .entry)) count (ownEntries kind asked at) ⌝ }
+{
+    if 15 <= kind {
+        note_cell(kind, asked, at, count, cells);
     }
 }
 
@@ -163,8 +189,8 @@ fn check_operands(
     }
 }
 
-// The expression at `at`, which has operands and owns no cell: 9, then its operands.
-fn check_plain(
+// The expression at `at`, which has operands: its own bytes, then they.
+fn check_node(
     sheet: &&[u8],
     names: &[u64; 8],
     level: usize,
@@ -174,47 +200,13 @@ fn check_plain(
     cells: &mut [u16; 64],
     reads: &mut u64,
 ) -> Read
-    requires { ⌜ Lookup (now names) × NodeAt (now (now sheet)) level asked at count × (getD (now (now sheet)) at 0 < 15) ⌝ }
+    requires { ⌜ Lookup (now names) × NodeAt (now (now sheet)) level asked at count ⌝ }
     ensures { λ r. ⌜ ((l : Lookup (now (names .entry)))
         → Checks (now (now (sheet .entry))) cellForms wiresRead
         (readExpression (l .inputs) (l .wires) (now (now (sheet .entry))) level asked at count) count r
         (now (cells .entry)) (now (cells .exit)) (now (reads .entry)) (now (reads .exit))) ⌝ }
 {
-    let kind = sheet[at];
-    if !kinds::fits(kind, asked) {
-        return refused(Refusal::TypeAsked, at);
-    }
-    check_operands(
-        sheet,
-        names,
-        kind,
-        level - 1,
-        asked,
-        at + 1,
-        count,
-        cells,
-        reads,
-    )
-}
-
-// The expression at `at`, which owns a cell: its own bytes, then its operands.
-fn check_owner(
-    sheet: &&[u8],
-    names: &[u64; 8],
-    level: usize,
-    asked: u8,
-    at: usize,
-    count: usize,
-    cells: &mut [u16; 64],
-    reads: &mut u64,
-) -> Read
-    requires { ⌜ Lookup (now names) × NodeAt (now (now sheet)) level asked at count × (15 ≤ getD (now (now sheet)) at 0) ⌝ }
-    ensures { λ r. ⌜ ((l : Lookup (now (names .entry)))
-        → Checks (now (now (sheet .entry))) cellForms wiresRead
-        (readExpression (l .inputs) (l .wires) (now (now (sheet .entry))) level asked at count) count r
-        (now (cells .entry)) (now (cells .exit)) (now (reads .entry)) (now (reads .exit))) ⌝ }
-{
-    let own = check_cell(*sheet, at, count);
+    let own = check_own(*sheet, at, count);
     let Read::Got { next: n, count: k } = own else {
         return own;
     };
@@ -222,7 +214,7 @@ fn check_owner(
     if !kinds::fits(kind, asked) {
         return refused(Refusal::TypeAsked, at);
     }
-    note_cell(kind, asked, at, count, cells);
+    note_own(kind, asked, at, count, cells);
     check_operands(sheet, names, kind, level - 1, asked, n, k, cells, reads)
 }
 
@@ -256,10 +248,7 @@ fn check_one(
     if kind < 4 {
         return check_leaf(*sheet, names, asked, at, count, reads);
     }
-    if kind < 15 {
-        return check_plain(sheet, names, level, asked, at, count, cells, reads);
-    }
-    check_owner(sheet, names, level, asked, at, count, cells, reads)
+    check_node(sheet, names, level, asked, at, count, cells, reads)
 }
 
 // The expression of an operand. A leaf is checked without a call of its own: these are half of all.

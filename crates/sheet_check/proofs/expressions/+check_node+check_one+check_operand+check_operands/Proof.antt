@@ -1,4 +1,4 @@
--- `check_one`, `check_operand`, `check_plain`, `check_owner` and `check_operands` meet their contracts. The loop over the operands: what is left of the run reads
+-- `check_one`, `check_node`, `check_operand` and `check_operands` meet their contracts. The loop over the operands: what is left of the run reads
 -- as the whole run does, and its cells and reads, once noted, make those of the whole. The level falls from an expression to its operands.
 use Prim.Native.Nat.{ℕ, _+_, _*_, _-_, _<_, _≤_}
 use mathlib.Core.Path.{_≡_, refl, sym, ap, _∙_}
@@ -16,37 +16,34 @@ use Rattle.sheet.specs.Sheets.{formsOf}
 use Rattle.sheet.specs.Laws.Readings.{own-good, operands-counted}
 use Rattle.sheet_check.specs.Map.{Lookup, NodeAt, thenType}
 use Rattle.sheet_check.proofs.Steps.{each-good, each-refused, own-missing, own-unknown, own-deep, own-passed}
-use Rattle.sheet_check.proofs.Nodes.{owner-cells, plain-own, type-wrong, type-right}
-use Rattle.sheet_check.proofs.Noting.{refused-checks, own-stops, limit, Left, left-step, left-none, whole-checks, leaf-checks, plain-entries}
+use Rattle.sheet_check.proofs.Nodes.{owner-cells, type-wrong, type-right}
+use Rattle.sheet_check.proofs.Noting.{refused-checks, own-stops, limit, Left, left-step, left-none, whole-checks, leaf-checks}
 use borrow.Fn.Kinds.{In}
 use borrow.Fn.PlainCycle.{Measures, is, falls, and}
 use Rattle.sheet_check.proofs.expressions.check_one.Reads as check-one
 use Rattle.sheet_check.proofs.expressions.check_one.Kinds as check-one-kinds
-use Rattle.sheet_check.proofs.expressions.+check_one+check_operand+check_operands+check_owner+check_plain.Lts-check_one as check-one-lts
+use Rattle.sheet_check.proofs.expressions.+check_node+check_one+check_operand+check_operands.Lts-check_one as check-one-lts
 use Rattle.sheet_check.proofs.expressions.check_operand.Reads as check-operand
 use Rattle.sheet_check.proofs.expressions.check_operand.Kinds as check-operand-kinds
-use Rattle.sheet_check.proofs.expressions.+check_one+check_operand+check_operands+check_owner+check_plain.Lts-check_operand as check-operand-lts
+use Rattle.sheet_check.proofs.expressions.+check_node+check_one+check_operand+check_operands.Lts-check_operand as check-operand-lts
 use Rattle.sheet_check.proofs.expressions.check_operands.Reads as check-operands
 use Rattle.sheet_check.proofs.expressions.check_operands.Kinds as check-operands-kinds
-use Rattle.sheet_check.proofs.expressions.+check_one+check_operand+check_operands+check_owner+check_plain.Lts-check_operands as check-operands-lts
-use Rattle.sheet_check.proofs.expressions.check_owner.Reads as check-owner
-use Rattle.sheet_check.proofs.expressions.check_owner.Kinds as check-owner-kinds
-use Rattle.sheet_check.proofs.expressions.+check_one+check_operand+check_operands+check_owner+check_plain.Lts-check_owner as check-owner-lts
-use Rattle.sheet_check.proofs.expressions.check_plain.Reads as check-plain
-use Rattle.sheet_check.proofs.expressions.check_plain.Kinds as check-plain-kinds
-use Rattle.sheet_check.proofs.expressions.+check_one+check_operand+check_operands+check_owner+check_plain.Lts-check_plain as check-plain-lts
+use Rattle.sheet_check.proofs.expressions.+check_node+check_one+check_operand+check_operands.Lts-check_operands as check-operands-lts
+use Rattle.sheet_check.proofs.expressions.check_node.Reads as check-node
+use Rattle.sheet_check.proofs.expressions.check_node.Kinds as check-node-kinds
+use Rattle.sheet_check.proofs.expressions.+check_node+check_one+check_operand+check_operands.Lts-check_node as check-node-lts
 use Rattle.sheet.proofs.kinds.fits.Reads as fits-reads
 use Rattle.sheet.proofs.kinds.operand_type.Reads as operand-type-reads
 use Rattle.sheet.proofs.kinds.operand_types.Reads as operand-types-reads
 use Rattle.sheet.proofs.kinds.operands.Reads as operands-reads
 use Rattle.sheet.proofs.kinds.read_operands.Reads as read-operands-reads
-use Rattle.sheet_check.proofs.expressions.check_cell.Reads as check-cell-reads
+use Rattle.sheet_check.proofs.expressions.check_own.Reads as check-own-reads
 use Rattle.sheet_check.proofs.expressions.check_leaf.Reads as check-leaf-reads
 use Rattle.sheet_check.proofs.expressions.either.Reads as either-reads
-use Rattle.sheet_check.proofs.expressions.note_cell.Reads as note-cell-reads
+use Rattle.sheet_check.proofs.expressions.note_own.Reads as note-own-reads
 use Rattle.sheet_check.proofs.expressions.refused.Reads as refused-reads
-use Rattle.sheet_check.proofs.expressions.+check_one+check_operand+check_operands+check_owner+check_plain.{statement}
-use Rattle.sheet_check.proofs.expressions.+check_one+check_operand+check_operands+check_owner+check_plain.Tie.{close}
+use Rattle.sheet_check.proofs.expressions.+check_node+check_one+check_operand+check_operands.{statement}
+use Rattle.sheet_check.proofs.expressions.+check_node+check_one+check_operand+check_operands.Tie.{close}
 
 abbrev μ-check-one : Measures 5 check-one-kinds.ps ℕ
 μ-check-one κs a = 5 * a .1 .1 .0 + 1
@@ -57,11 +54,8 @@ abbrev μ-check-operand : Measures 5 check-operand-kinds.ps ℕ
 abbrev μ-check-operands : Measures 5 check-operands-kinds.ps ℕ
 μ-check-operands κs a = 5 * a .1 .1 .1 .0 + 3
 
-abbrev μ-check-owner : Measures 5 check-owner-kinds.ps ℕ
-μ-check-owner κs a = 5 * a .1 .1 .0
-
-abbrev μ-check-plain : Measures 5 check-plain-kinds.ps ℕ
-μ-check-plain κs a = 5 * a .1 .1 .0
+abbrev μ-check-node : Measures 5 check-node-kinds.ps ℕ
+μ-check-node κs a = 5 * a .1 .1 .0
 
 abbrev check-one-at : ℕ → In 5 check-one-kinds.ps
 check-one-at t = and 5 check-one-kinds.ps (is 5 check-one-kinds.ps μ-check-one t) check-one.Pre
@@ -94,21 +88,13 @@ check-operands-below t =
     (falls 5 check-operands-kinds.ps _<_ μ-check-operands t)
     check-operands.Pre
 
-abbrev check-owner-at : ℕ → In 5 check-owner-kinds.ps
-check-owner-at t =
-    and 5 check-owner-kinds.ps (is 5 check-owner-kinds.ps μ-check-owner t) check-owner.Pre
+abbrev check-node-at : ℕ → In 5 check-node-kinds.ps
+check-node-at t =
+    and 5 check-node-kinds.ps (is 5 check-node-kinds.ps μ-check-node t) check-node.Pre
 
-abbrev check-owner-below : ℕ → In 5 check-owner-kinds.ps
-check-owner-below t =
-    and 5 check-owner-kinds.ps (falls 5 check-owner-kinds.ps _<_ μ-check-owner t) check-owner.Pre
-
-abbrev check-plain-at : ℕ → In 5 check-plain-kinds.ps
-check-plain-at t =
-    and 5 check-plain-kinds.ps (is 5 check-plain-kinds.ps μ-check-plain t) check-plain.Pre
-
-abbrev check-plain-below : ℕ → In 5 check-plain-kinds.ps
-check-plain-below t =
-    and 5 check-plain-kinds.ps (falls 5 check-plain-kinds.ps _<_ μ-check-plain t) check-plain.Pre
+abbrev check-node-below : ℕ → In 5 check-node-kinds.ps
+check-node-below t =
+    and 5 check-node-kinds.ps (falls 5 check-node-kinds.ps _<_ μ-check-node t) check-node.Pre
 
 abbrev check-one-calls : ℕ → check-one-lts.Claims
 check-one-calls t = (
@@ -116,10 +102,8 @@ check-one-calls t = (
   refused-reads.Learnt,
   check-leaf-reads.Asked,
   check-leaf-reads.Learnt,
-  check-plain-below t,
-  check-plain.Post,
-  check-owner-below t,
-  check-owner.Post,
+  check-node-below t,
+  check-node.Post,
 )
 
 abbrev check-operand-calls : ℕ → check-operand-lts.Claims
@@ -130,26 +114,16 @@ check-operand-calls t = (
   check-leaf-reads.Learnt,
 )
 
-abbrev check-owner-calls : ℕ → check-owner-lts.Claims
-check-owner-calls t = (
-  check-cell-reads.Asked,
-  check-cell-reads.Learnt,
+abbrev check-node-calls : ℕ → check-node-lts.Claims
+check-node-calls t = (
+  check-own-reads.Asked,
+  check-own-reads.Learnt,
   fits-reads.Asked,
   fits-reads.Learnt,
   refused-reads.Asked,
   refused-reads.Learnt,
-  note-cell-reads.Asked,
-  note-cell-reads.Learnt,
-  check-operands-below t,
-  check-operands.Post,
-)
-
-abbrev check-plain-calls : ℕ → check-plain-lts.Claims
-check-plain-calls t = (
-  fits-reads.Asked,
-  fits-reads.Learnt,
-  refused-reads.Asked,
-  refused-reads.Learnt,
+  note-own-reads.Asked,
+  note-own-reads.Learnt,
   check-operands-below t,
   check-operands.Post,
 )
@@ -236,25 +210,27 @@ module _ (t : ℕ) where
       leaf-checks (l .inputs) (l .wires) (a .sheet .now .now) (a .level) (a .asked) (a .at) (a .count) (omega (arith, c .before .before .before .before .if3 .left)) (c .before .before .before .before .before .before .before .if1 .left) (c .before .before .before .if4 .taken)
       (c .check-leaf .ensures l)
 
-  plain-requires : check-one-lts.Need-check-plain-requires (check-one-calls t) (check-one-at t) check-one.Post
-  plain-requires c κs =
-      let start = c .before .before .before .before .before .before .before .before in
-      let a = start .args in
-      let p = start .pre .1 in
-      (omega arith, (p .0, record { byte = c .before .before .before .before .before .before .before .if1 .left; kind = c .before .before .before .before .before .if2 .left; operands = omega (arith, c .before .before .before .if4 .left); levels = omega (arith, c .before .before .before .before .if3 .left); asked = p .1; room = p .2; few = p .3 }, c .before .before .if5 .taken))
+  node-requires : check-one-lts.Need-check-node-requires (check-one-calls t) (check-one-at t) check-one.Post
+  node-requires c κs =
+      let start = c .before .before .before .before .before .before .before in
+      let p = start .pre .1 in (
+        omega arith,
+        (
+          p .0,
+          record {
+            byte = c .before .before .before .before .before .before .if1 .left;
+            kind = c .before .before .before .before .if2 .left;
+            operands = omega (arith, c .before .before .if4 .left);
+            levels = omega (arith, c .before .before .before .if3 .left);
+            asked = p .1;
+            room = p .2;
+            few = p .3;
+          },
+        ),
+      )
 
-  plain : check-one-lts.Need-returns-5 (check-one-calls t) (check-one-at t) check-one.Post
-  plain c = c .check-plain .ensures
-
-  owner-requires : check-one-lts.Need-check-owner-requires (check-one-calls t) (check-one-at t) check-one.Post
-  owner-requires c κs =
-      let start = c .before .before .before .before .before .before .before .before in
-      let a = start .args in
-      let p = start .pre .1 in
-      (omega arith, (p .0, record { byte = c .before .before .before .before .before .before .before .if1 .left; kind = c .before .before .before .before .before .if2 .left; operands = omega (arith, c .before .before .before .if4 .left); levels = omega (arith, c .before .before .before .before .if3 .left); asked = p .1; room = p .2; few = p .3 }, omega (arith, c .before .before .if5 .left)))
-
-  owner : check-one-lts.Need-returns-6 (check-one-calls t) (check-one-at t) check-one.Post
-  owner c = c .check-owner .ensures
+  node : check-one-lts.Need-returns-5 (check-one-calls t) (check-one-at t) check-one.Post
+  node c = c .check-node .ensures
 
   operand-kind : check-operand-lts.Need-index-1-if3 (check-operand-calls t) (check-operand-at t) check-operand.Post
   operand-kind c = leb-false _ _ (c .if2 .left)
@@ -382,132 +358,101 @@ module _ (t : ℕ) where
         reads = λ es n k e. rw (c .before .before .before .read-operands .ensures) at (left-none (l .inputs) (l .wires) (a .sheet .now .now) (a .level) (operandsOf (a .kind) (a .asked)) (o .i) (o .next) (o .behind) over (o .inv .2 l .1 es n k e) .1);
       }
 
-  plain-kind : check-plain-lts.Need-index-1-kind (check-plain-calls t) (check-plain-at t) check-plain.Post
-  plain-kind c = c .pre .1 .1 .byte
+  own-requires : check-node-lts.Need-check-own-requires (check-node-calls t) (check-node-at t) check-node.Post
+  own-requires c κs = let n = c .before .pre .1 .1 in ((n .byte, n .operands, n .kind, n .room), n .few)
 
-  plain-fits-requires : check-plain-lts.Need-fits-requires (check-plain-calls t) (check-plain-at t) check-plain.Post
-  plain-fits-requires c κs = c .before .pre .1 .1 .kind
-
-  plain-wrong-requires : check-plain-lts.Need-refused-requires (check-plain-calls t) (check-plain-at t) check-plain.Post
-  plain-wrong-requires c κs = search needs
-
-  -- what an expression without a cell has left to pass
-  plain-is : (start : check-plain-lts.Start (check-plain-calls t) (check-plain-at t) check-plain.Post) (l : Lookup (start .args .names .now))
-      → let a = start .args in
-      ownOf (l .inputs) (l .wires) (a .sheet .now .now) (a .level) (a .asked) (a .at) (a .count) ≡ thenType (getD (a .sheet .now .now) (a .at) 0) (a .asked) (a .at) (Got (a .at + 1) (a .count))
-  plain-is start l =
-      let a = start .args in
-      let n = start .pre .1 .1 in
-      own-passed (l .inputs) (l .wires) (a .sheet .now .now) (a .asked) (a .at) (a .count) (a .level) (n .byte) (n .kind) (n .levels)
-      ∙ plain-own (l .inputs) (l .wires) (a .sheet .now .now) (a .asked) (a .at) (a .count) (n .byte) (n .operands) (start .pre .1 .2) (n .room)
-
-  plain-wrong : check-plain-lts.Need-returns (check-plain-calls t) (check-plain-at t) check-plain.Post
-  plain-wrong c = λ l.
-      let start = c .before .before .before .before in
-      let a = start .args in
-      own-stops (l .inputs) (l .wires) (a .sheet .now .now) (a .level) (a .asked) (a .at) (a .count) (c .refused .ensures)
-      (plain-is start l ∙ type-wrong (getD (a .sheet .now .now) (a .at) 0) (a .asked) (a .at) _ _ (c .before .before .fits2 .ensures) (c .before .if1 .taken))
-
-  plain-level : check-plain-lts.Need-sub-check-operands (check-plain-calls t) (check-plain-at t) check-plain.Post
-  plain-level c = c .before .before .before .pre .1 .1 .levels
-
-  plain-next : check-plain-lts.Need-add-check-operands (check-plain-calls t) (check-plain-at t) check-plain.Post
-  plain-next c = omega (arith, c .before .before .before .pre .1 .1 .byte, c .before .before .before .pre .1 .1 .few)
-
-  plain-operands-requires : check-plain-lts.Need-check-operands-requires (check-plain-calls t) (check-plain-at t) check-plain.Post
-  plain-operands-requires c κs =
-      let p = c .before .before .before .before .before .pre .1 in
-      let n = p .1 in
-      (omega (arith, n .levels), (p .0, n .kind, n .asked, n .room, n .few))
-
-  plain-whole : check-plain-lts.Need-returns-2 (check-plain-calls t) (check-plain-at t) check-plain.Post
-  plain-whole c = λ l.
-      let start = c .before .before .before .before .before .before in
-      let a = start .args in
-      let n = start .pre .1 .1 in
-      let own = plain-is start l ∙ type-right (getD (a .sheet .now .now) (a .at) 0) (a .asked) (a .at) _ _ (c .before .before .before .before .fits2 .ensures) (c .before .before .before .if1 .left) in
-      whole-checks (l .inputs) (l .wires) (a .sheet .now .now) (a .level) (a .asked) (a .at) (a .count) (n .asked) (n .operands) own
-      (plain-entries (a .sheet .now .now) (a .asked) (a .at) (a .count) (n .operands) (start .pre .1 .2)) (c .check-operands .ensures l)
-
-  cell-requires : check-owner-lts.Need-check-cell-requires (check-owner-calls t) (check-owner-at t) check-owner.Post
-  cell-requires c κs = let p = c .before .pre .1 in (p .1 .byte, p .2, p .1 .kind)
-
-  own-known : check-owner-lts.Need-enum-known-own (check-owner-calls t) (check-owner-at t) check-owner.Post
+  own-known : check-node-lts.Need-enum-known-own (check-node-calls t) (check-node-at t) check-node.Post
   own-known c = search needs
 
-  own-told : check-owner-lts.Need-enum-told (check-owner-calls t) (check-owner-at t) check-owner.Post
+  own-told : check-node-lts.Need-enum-told (check-node-calls t) (check-node-at t) check-node.Post
   own-told c = search needs
 
-  -- what an owner's own bytes show
-  owner-is : (c : check-owner-lts.After-check-cell (check-owner-calls t) (check-owner-at t) check-owner.Post)
+  -- what an expression's own bytes show
+  node-is : (c : check-node-lts.After-check-own (check-node-calls t) (check-node-at t) check-node.Post)
       (l : Lookup (c .before .before .args .names .now))
       → let a = c .before .before .args in
-      ownOf (l .inputs) (l .wires) (a .sheet .now .now) (a .level) (a .asked) (a .at) (a .count) ≡ thenType (getD (a .sheet .now .now) (a .at) 0) (a .asked) (a .at) (c .check-cell .result)
-  owner-is c l =
+      ownOf (l .inputs) (l .wires) (a .sheet .now .now) (a .level) (a .asked) (a .at) (a .count) ≡ thenType (getD (a .sheet .now .now) (a .at) 0) (a .asked) (a .at) (c .check-own .result)
+  node-is c l =
       let a = c .before .before .args in
       let n = c .before .before .pre .1 .1 in
       own-passed (l .inputs) (l .wires) (a .sheet .now .now) (a .asked) (a .at) (a .count) (a .level) (n .byte) (n .kind) (n .levels)
-      ∙ sym (c .check-cell .ensures (l .inputs) (l .wires) (a .asked))
+      ∙ sym (c .check-own .ensures (l .inputs) (l .wires) (a .asked))
 
-  owner-stops : check-owner-lts.Need-returns (check-owner-calls t) (check-owner-at t) check-owner.Post
-  owner-stops c = λ l.
+  node-stops : check-node-lts.Need-returns (check-node-calls t) (check-node-at t) check-node.Post
+  node-stops c = λ l.
       let cell = c .before .before in
       let a = cell .before .before .args in
-      own-stops (l .inputs) (l .wires) (a .sheet .now .now) (a .level) (a .asked) (a .at) (a .count) (c .enum-told .given .1) (rw (c .enum-told .given .1) at (owner-is cell l))
+      own-stops (l .inputs) (l .wires) (a .sheet .now .now) (a .level) (a .asked) (a .at) (a .count) (c .enum-told .given .1) (rw (c .enum-told .given .1) at (node-is cell l))
 
-  owner-kind : check-owner-lts.Need-index-1-kind (check-owner-calls t) (check-owner-at t) check-owner.Post
-  owner-kind c = c .before .before .before .before .before .pre .1 .1 .byte
+  node-kind : check-node-lts.Need-index-1-kind (check-node-calls t) (check-node-at t) check-node.Post
+  node-kind c = c .before .before .before .before .before .pre .1 .1 .byte
 
-  owner-fits-requires : check-owner-lts.Need-fits-requires (check-owner-calls t) (check-owner-at t) check-owner.Post
-  owner-fits-requires c κs = c .before .before .before .before .before .before .pre .1 .1 .kind
+  node-fits-requires : check-node-lts.Need-fits-requires (check-node-calls t) (check-node-at t) check-node.Post
+  node-fits-requires c κs = c .before .before .before .before .before .before .pre .1 .1 .kind
 
-  owner-wrong-requires : check-owner-lts.Need-refused-requires (check-owner-calls t) (check-owner-at t) check-owner.Post
-  owner-wrong-requires c κs = search needs
+  node-wrong-requires : check-node-lts.Need-refused-requires (check-node-calls t) (check-node-at t) check-node.Post
+  node-wrong-requires c κs = search needs
 
-  owner-wrong : check-owner-lts.Need-returns-2 (check-owner-calls t) (check-owner-at t) check-owner.Post
-  owner-wrong c = λ l.
+  node-wrong : check-node-lts.Need-returns-2 (check-node-calls t) (check-node-at t) check-node.Post
+  node-wrong c = λ l.
       let cell = c .before .before .before .before .before .before .before in
       let a = cell .before .before .args in
       own-stops (l .inputs) (l .wires) (a .sheet .now .now) (a .level) (a .asked) (a .at) (a .count) (c .refused .ensures)
-      (rw (c .before .before .before .before .before .own .given .1) at (owner-is cell l)
+      (rw (c .before .before .before .before .before .own .given .1) at (node-is cell l)
       ∙ type-wrong (getD (a .sheet .now .now) (a .at) 0) (a .asked) (a .at) _ _ (c .before .before .fits2 .ensures) (c .before .if1 .taken))
 
-  note-requires : check-owner-lts.Need-note-cell-requires (check-owner-calls t) (check-owner-at t) check-owner.Post
+  note-requires : check-node-lts.Need-note-own-requires (check-node-calls t) (check-node-at t) check-node.Post
   note-requires c κs =
       let p = c .before .before .before .before .before .before .before .before .before .pre .1 in
       let n = p .1 in
       let l = p .0 in
       let a = c .before .before .before .before .before .before .before .before .before .args in
-      let own = rw (c .before .before .before .before .before .own .given .1) at (owner-is (c .before .before .before .before .before .before .before) l) ∙ type-right (getD (a .sheet .now .now) (a .at) 0) (a .asked) (a .at) _ _ (c .before .before .fits2 .ensures) (c .before .if1 .left) in
+      let own = rw (c .before .before .before .before .before .own .given .1) at (node-is (c .before .before .before .before .before .before .before) l) ∙ type-right (getD (a .sheet .now .now) (a .at) 0) (a .asked) (a .at) _ _ (c .before .before .fits2 .ensures) (c .before .if1 .left) in
       let g = own-good (l .inputs) (l .wires) (a .sheet .now .now) (a .level) (a .asked) (a .at) (a .count) own in
-      (p .2, n .kind, n .asked, omega (arith, n .byte, n .few), omega (arith, g .cells, owner-cells _ (p .2) (n .kind)))
+      (n .operands, n .kind, n .asked, omega (arith, n .byte, n .few), λ e. omega (arith, g .cells, owner-cells _ e (n .kind)))
 
-  owner-level : check-owner-lts.Need-sub-check-operands (check-owner-calls t) (check-owner-at t) check-owner.Post
-  owner-level c = c .before .before .before .before .before .before .before .before .before .before .pre .1 .1 .levels
+  node-level : check-node-lts.Need-sub-check-operands (check-node-calls t) (check-node-at t) check-node.Post
+  node-level c = c .before .before .before .before .before .before .before .before .before .before .pre .1 .1 .levels
 
-  owner-operands-requires : check-owner-lts.Need-check-operands-requires (check-owner-calls t) (check-owner-at t) check-owner.Post
-  owner-operands-requires c κs =
+  node-operands-requires : check-node-lts.Need-check-operands-requires (check-node-calls t) (check-node-at t) check-node.Post
+  node-operands-requires c κs =
       let p = c .before .before .before .before .before .before .before .before .before .before .before .before .pre .1 in
       let n = p .1 in
       let l = p .0 in
       let a = c .before .before .before .before .before .before .before .before .before .before .before .before .args in
-      let own = rw (c .before .before .before .before .before .before .before .before .own .given .1) at (owner-is (c .before .before .before .before .before .before .before .before .before .before) l) ∙ type-right (getD (a .sheet .now .now) (a .at) 0) (a .asked) (a .at) _ _ (c .before .before .before .before .before .fits2 .ensures) (c .before .before .before .before .if1 .left) in
+      let own = rw (c .before .before .before .before .before .before .before .before .own .given .1) at (node-is (c .before .before .before .before .before .before .before .before .before .before) l) ∙ type-right (getD (a .sheet .now .now) (a .at) 0) (a .asked) (a .at) _ _ (c .before .before .before .before .before .fits2 .ensures) (c .before .before .before .before .if1 .left) in
       let g = own-good (l .inputs) (l .wires) (a .sheet .now .now) (a .level) (a .asked) (a .at) (a .count) own in
       (omega (arith, n .levels), (p .0, n .kind, n .asked, omega (arith, g .cells, g .count), n .few))
 
-  owner-whole : check-owner-lts.Need-returns-3 (check-owner-calls t) (check-owner-at t) check-owner.Post
-  owner-whole c = λ l.
+  node-whole : check-node-lts.Need-returns-3 (check-node-calls t) (check-node-at t) check-node.Post
+  node-whole c = λ l.
       let cell = c .before .before .before .before .before .before .before .before .before .before .before in
       let start = cell .before .before in
       let a = start .args in
       let n = start .pre .1 .1 in
-      let own = rw (c .before .before .before .before .before .before .before .before .before .own .given .1) at (owner-is cell l)
+      let own = rw (c .before .before .before .before .before .before .before .before .before .own .given .1) at (node-is cell l)
       ∙ type-right (getD (a .sheet .now .now) (a .at) 0) (a .asked) (a .at) _ _ (c .before .before .before .before .before .before .fits2 .ensures) (c .before .before .before .before .before .if1 .left) in
-      whole-checks (l .inputs) (l .wires) (a .sheet .now .now) (a .level) (a .asked) (a .at) (a .count) (n .asked) (n .operands) own (c .before .before .before .note-cell .ensures) (c .check-operands .ensures l)
+      whole-checks (l .inputs) (l .wires) (a .sheet .now .now) (a .level) (a .asked) (a .at) (a .count) (n .asked) (n .operands) own (c .before .before .before .note-own .ensures) (c .check-operands .ensures l)
 
-pub +check-one+check-operand+check-operands+check-owner+check-plain-spec : {M : Type 1} → statement M
-+check-one+check-operand+check-operands+check-owner+check-plain-spec =
-    close μ-check-one μ-check-operand μ-check-operands μ-check-owner μ-check-plain (λ t. check-one-lts.spec (check-one-calls t)
+pub +check-node+check-one+check-operand+check-operands-spec : {M : Type 1} → statement M
++check-node+check-one+check-operand+check-operands-spec =
+    close μ-check-node μ-check-one μ-check-operand μ-check-operands
+    (λ t. check-node-lts.spec (check-node-calls t)
+    (check-node-at t)
+    check-node.Post
+    (own-requires t)
+    (own-known t)
+    (own-told t)
+    (node-stops t)
+    (node-kind t)
+    (node-fits-requires t)
+    (node-wrong-requires t)
+    (node-wrong t)
+    (note-requires t)
+    (node-level t)
+    (node-operands-requires t)
+    (node-whole t))
+    (λ t. check-one-lts.spec (check-one-calls t)
     (check-one-at t)
     check-one.Post
     (missing-requires t)
@@ -519,10 +464,8 @@ pub +check-one+check-operand+check-operands+check-owner+check-plain-spec : {M : 
     (deep t)
     (leaf-requires t)
     (leaf t)
-    (plain-requires t)
-    (plain t)
-    (owner-requires t)
-    (owner t))
+    (node-requires t)
+    (node t))
     (λ t. check-operand-lts.spec (check-operand-calls t)
     (check-operand-at t)
     check-operand.Post
@@ -550,29 +493,3 @@ pub +check-one+check-operand+check-operands+check-owner+check-plain-spec : {M : 
     (loop-less t)
     (loop-again t)
     (run-ends t))
-    (λ t. check-owner-lts.spec (check-owner-calls t)
-    (check-owner-at t)
-    check-owner.Post
-    (cell-requires t)
-    (own-known t)
-    (own-told t)
-    (owner-stops t)
-    (owner-kind t)
-    (owner-fits-requires t)
-    (owner-wrong-requires t)
-    (owner-wrong t)
-    (note-requires t)
-    (owner-level t)
-    (owner-operands-requires t)
-    (owner-whole t))
-    λ t. check-plain-lts.spec (check-plain-calls t)
-    (check-plain-at t)
-    check-plain.Post
-    (plain-kind t)
-    (plain-fits-requires t)
-    (plain-wrong-requires t)
-    (plain-wrong t)
-    (plain-level t)
-    (plain-next t)
-    (plain-operands-requires t)
-    (plain-whole t)

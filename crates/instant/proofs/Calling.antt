@@ -5,7 +5,7 @@ use mathlib.Core.Bool.{Bool, true, false}
 use mathlib.Core.List.{List}
 use native.Mathlib.Nat.{lt-of-not-le}
 use native.Mathlib.Omega.{arith}
-use lib.ListN.{length, getD}
+use lib.ListN.{length}
 use Rattle.wires.specs.Sets.{member, tally, LowestMissing}
 use Rattle.wires.specs.Laws.{tally-beyond, tally-full, all-full}
 use Rattle.sheet.specs.Outcomes.{Outcome, refusal, result, followedBy}
@@ -35,6 +35,7 @@ use Rattle.schedule.specs.Orders.{orderedAnswer}
 use Rattle.schedule.specs.declared.Ordered.the-variants.{Refused as RefusedOrder, Passed as PassedOrder}
 use Rattle.rounds.specs.Running.{Held, unheld, held, Holds}
 use Rattle.rounds.specs.Outputs.{Below, wordsOf, output-words}
+use Rattle.rounds.proofs.Rounding.{out-unknown}
 use Rattle.instant.specs.Along.{Along}
 use Rattle.instant.specs.Settled.{Settled, storedOf}
 use Rattle.instant.specs.Leaves.{Answers, Granted, Leaves}
@@ -76,10 +77,6 @@ held-known : {b : Bool} {word : ℕ} {v : Value} → b ≡ true → Held b word 
 held-known e unheld = never (cc)
 held-known e (held f) = known
 
-held-unknown : {b : Bool} {word : ℕ} {v : Value} → b ≡ false → Held b word v → v ≡ Unknown
-held-unknown e unheld = refl
-held-unknown e (held f) = never (cc)
-
 known-not : {v : Value} → IsKnown v → isUnknown v ≡ false
 known-not known = refl
 
@@ -101,7 +98,7 @@ module _ {n bits : ℕ} {words : List ℕ} {values : List Value} (h : Holds n bi
   lowest-unknown {place} differ low =
       let inside : place < n =
       lt-of-not-le (λ (l : n ≤ place). differ (same-tally ∙ all-full (member bits) n (λ k m. low .below k (omega arith)))) in
-      let unknown : valueAt values place ≡ Unknown = held-unknown (low .missing (omega arith)) (h .each place inside) in
+      let unknown : valueAt values place ≡ Unknown = out-unknown h place (low .missing (omega arith)) in
       let lower : (j : ℕ) → j < place → isUnknown (valueAt values j) ≡ false =
       λ j l. known-not (held-known (low .below j l) (h .each j (omega arith))) in
       record {

@@ -10,7 +10,7 @@ use Rattle.sheet_check.specs.Map.{HoldsJust}
 use Rattle.kernel.specs.Instants.{wireCount, readsAt}
 use Rattle.kernel.specs.Calls.{Given, givenOf}
 use Rattle.kernel.specs.Laws.Given.{given-by}
-use Rattle.rounds.specs.Running.{Running}
+use Rattle.rounds.specs.Running.{Running, RunningReads}
 use Rattle.rounds.specs.Outputs.{Below}
 use Rattle.rounds.specs.Laws.Running.{parts}
 use Rattle.instant.specs.Leaves.{Granted}
@@ -37,6 +37,12 @@ pub record Laid (s memory input output places firsts reads : List ℕ) (inputs w
   pub row : length output ≡ 4 * length (outputsAt s inputs wires outputs)
   pub within : firstAt s inputs wires outputs ≤ length s
 
+-- what runs, with its reads
+abbrev pub laidReads : {s memory input output places firsts reads : List ℕ} {inputs wires outputs : ℕ}
+    → Laid s memory input output places firsts reads inputs wires outputs
+    → RunningReads s memory input (typesAt s inputs wires outputs) places firsts reads
+laidReads l = record { running = l .running; reading = l .reading }
+
 -- what runs, by equal names
 record Runs (s memory input types places firsts reads : List ℕ) (given : Given) : Type 0 where
   running : Running s memory input types places firsts
@@ -59,7 +65,8 @@ module _ {s memory input output places firsts reads : List ℕ} {inputs wires ou
       let i = g .ofInputs in
       let w = g .ofWires in
       let o = g .ofOutputs in
-      let types : take (length (given .sheet .wireTypes)) (drop (2 + length (given .sheet .inputTypes)) s) ≡ typesAt s inputs wires outputs =
+      let bytes = take (length (given .sheet .wireTypes)) (drop (2 + length (given .sheet .inputTypes)) s) in
+      let types : bytes ≡ typesAt s inputs wires outputs =
       let size : length (given .sheet .wireTypes) ≡ 2 + inputs + wires - (2 + inputs) = omega arith in
       let from : 2 + length (given .sheet .inputTypes) ≡ 2 + inputs = omega arith in
       ap₂ (λ (a b : ℕ). take a (drop b s)) size from in
@@ -69,7 +76,7 @@ module _ {s memory input output places firsts reads : List ℕ} {inputs wires ou
       p .outputs ∙ ap₂ (λ (a b : ℕ). take a (drop b s)) size from in
       let wired : length (given .sheet .expressions) ≡ length (typesAt s inputs wires outputs) =
       sym (passed .same-length) ∙ sym (p .sized) ∙ ap length types in
-      let whole : Runs s memory input (take (length (given .sheet .wireTypes)) (drop (2 + length (given .sheet .inputTypes)) s)) places firsts reads given =
+      let whole : Runs s memory input bytes places firsts reads given =
       record { running = p .running; same = p .same; reading = p .reading } in
       let r = renamed types whole in
       record {

@@ -75,7 +75,16 @@ fn solve_in_rounds(
     let first = named + outputs;
     let types = &sheet[from..to];
     let mut words = [0u32; 64];
-    let solved = rounds::finish(sheet, memory, input, types, places, firsts, &mut words);
+    let solved = rounds::finish(
+        sheet,
+        memory,
+        input,
+        types,
+        places,
+        firsts,
+        reads,
+        &mut words,
+    );
     let known = solved.known;
     let full = known.count() as usize == types.len();
     if full {

@@ -8,6 +8,7 @@ pub mod Passes
 pub mod Agreement
 pub mod Knowing
 pub mod Instants
+pub mod Due
 pub mod Solutions
 pub mod Schedules
 pub mod Given

@@ -1,12 +1,12 @@
 -- A system of n wires, whose function `next` works all of them out from their values: rounds, the finished values, solutions,
--- and visits to one wire at a time.
+-- visits to one wire at a time, and rounds that pass wires over.
 use Prim.Native.Nat.{ℕ, zero, suc, _<_}
 use mathlib.Core.Path.{_≡_}
-use mathlib.Core.Bool.{Bool, true}
+use mathlib.Core.Bool.{Bool, true, not, _&&_, cond}
 use mathlib.Core.List.{List, [], _∷_}
 use lib.ListN.{length, set}
 use Rattle.sheet.specs.Outcomes.{lowest}
-use Rattle.kernel.specs.Values.{IsKnown}
+use Rattle.kernel.specs.Values.{isUnknown, IsKnown}
 use Rattle.kernel.specs.Order.{_⊑*_, valueAt, allUnknown}
 use Rattle.kernel.specs.Equality.{sameValues}
 use Rattle.sheet.specs.Lists.{among}
@@ -25,7 +25,16 @@ pub record Monotone (n : ℕ) (next : List Value → List Value) : Type 0 where
   pub sized : (xs : List Value) → length (next xs) ≡ n
   pub grows : (xs ys : List Value) → xs ⊑* ys → next xs ⊑* next ys
 
+-- each wire that is unknown and not passed over gets its new value, every other one stays as it was
+unfoldable pub renewed : (passed : ℕ → Bool) (new : ℕ → Value) → List Value → List Value
+renewed passed new [] = []
+renewed passed new (v ∷ vs) = cond (isUnknown v && not (passed 0)) (new 0) v ∷ renewed (λ w. passed (suc w)) (λ w. new (suc w)) vs
+
 module _ (next : List Value → List Value) where
+  -- a round over the wires that are unknown and not passed over, which are worked out from the values before
+  unfoldable pub roundOver : (passed : ℕ → Bool) → List Value → List Value
+  roundOver passed values = renewed passed (valueAt (next values)) values
+
   -- known or unknown, each wire has just what is worked out under these values
   unfoldable pub Solution : List Value → Type 0
   Solution values = next values ≡ values

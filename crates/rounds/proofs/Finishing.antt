@@ -1,14 +1,17 @@
 -- From round to round: each knows more wires than the one before, and where one knows no more the rounds have finished.
 use Prim.Native.Nat.{ℕ, suc, _+_, _≤_, _<_}
 use mathlib.Core.Path.{_≡_, refl, sym, ap, _∙_}
-use mathlib.Core.Bool.{Bool, false, cond}
+use mathlib.Core.Bool.{Bool, true, false, not, _&&_, cond}
 use mathlib.Core.List.{List, [], _∷_}
 use native.Mathlib.Numerals.{add-one}
 use native.Mathlib.Omega.{arith}
+use lib.Dec.{ltb}
 use lib.ListN.{length, getD, length-replicate}
 use borrow.Author.Count.{below-more}
+use borrow.Author.Tests.{ltb-true, ltb-false}
 use Rattle.wires.specs.Sets.{member, tally}
 use Rattle.wires.specs.Laws.{tally-beyond, tally-front}
+use Rattle.sheet.specs.Laws.Lists.{never}
 use Rattle.kernel.specs.Order.{_⊑*_, valueAt, knownCount}
 use Rattle.kernel.specs.Order as Order
 use Rattle.kernel.specs.Systems as System
@@ -16,12 +19,15 @@ use Rattle.kernel.specs.Instants.{wireCount, rounds, finished}
 use Rattle.kernel.specs.Laws.Order.{unknown-at}
 use Rattle.kernel.specs.Laws.Counting.{count-same, count-grows}
 use Rattle.kernel.specs.Laws.Rounds.{climbs, rounds-unique}
+use Rattle.kernel.specs.Laws.Due.{NoneDue, first-whole, due-whole}
 use Rattle.kernel.specs.Laws.Instants.{round-monotone}
 use Rattle.kernel.specs.Laws.Memory.{after-typed}
 use Rattle.kernel.specs.declared.Value.{Value}
 use Rattle.kernel.specs.declared.Value.the-variants.{Unknown}
+use Rattle.rounds.specs.Running.{Held, unheld, held, Holds, Running, RunningReads, roundOf, Before}
+use Rattle.rounds.specs.Due.{NotDue}
 use Rattle.rounds.proofs.Wires.{wires-counted}
-use Rattle.rounds.specs.Running.{Held, unheld, held, Holds, Running, roundOf, Before}
+use Rattle.rounds.proofs.Rounding.{out-unknown, unknown-out}
 
 -- one for a wire in the set
 held-tally : {b : Bool} {word : ℕ} {v : Value} → Held b word v → cond b 1 0 ≡ Order.tally v
@@ -44,7 +50,15 @@ held-count {n} {bits} {words} {values} h few =
     ∙ ap (tally (member bits)) (sym (h .size))
     ∙ each-counted (member bits) (λ w. getD words w 0) values (λ w l. h .each w (omega (arith, h .size)))
 
-module _ {s memory input types places firsts : List ℕ} (r : Running s memory input types places firsts) where
+-- what was not there and is not new is not there
+not-new : (g b : Bool) → (g && not b) ≡ false → b ≡ false → g ≡ false
+not-new true b e f = sym (ap not f) ∙ e
+not-new false b e f = refl
+
+module _ {s memory input types places firsts reads : List ℕ} (run : RunningReads s memory input types places firsts reads) where
+  abbrev r : Running s memory input types places firsts
+  r = run .running
+
   abbrev after : ℕ → List Value
   after = System.after (wireCount (r .given .sheet)) (roundOf r)
 
@@ -54,14 +68,17 @@ module _ {s memory input types places firsts : List ℕ} (r : Running s memory i
   ascends : (k : ℕ) → after k ⊑* after (suc k)
   ascends k = climbs (wireCount (r .given .sheet)) (roundOf r) monotone k (suc k) (omega arith)
 
-  -- after k rounds, of which each changed something
-  pub record Rounded (k bits : ℕ) (words : List ℕ) : Type 0 where
+  -- after k rounds, of which each changed something; the next one may pass over the wires of the set, all known ones among them
+  pub record Rounded (k bits passed : ℕ) (words : List ℕ) : Type 0 where
     pub holds : Holds (length types) bits words (after k)
     pub changed : (j : ℕ) → j < k → after j ≡ after (suc j) → ⊥
+    pub known : (w : ℕ) → member bits w ≡ true → member passed w ≡ true
+    pub whole : System.roundOver (roundOf r) (member passed) (after k) ≡ after (suc k)
 
-  pub unrounded : {bits : ℕ} {words : List ℕ} → length types ≤ length words → ((w : ℕ) → member bits w ≡ false) → Rounded 0 bits words
+  pub unrounded : {bits passed : ℕ} {words : List ℕ} → length types ≤ length words → ((w : ℕ) → member bits w ≡ false)
+      → ((w : ℕ) → member passed w ≡ false) → Rounded 0 bits passed words
   unfolding System.after
-  unrounded room none =
+  unrounded {passed = passed} room none nothing =
       let n = wireCount (r .given .sheet) in
       record {
         holds = record {
@@ -71,25 +88,29 @@ module _ {s memory input types places firsts : List ℕ} (r : Running s memory i
           beyond = λ w l. none w;
         };
         changed = λ j l. absurd (omega arith);
+        known = λ w e. never (cc (none w));
+        whole = first-whole n (roundOf r) monotone (member passed) nothing;
       }
 
-  pub before : {k bits : ℕ} {words : List ℕ} → Rounded k bits words → Before s memory input types places firsts bits words
+  pub before : {k bits passed : ℕ} {words : List ℕ} → Rounded k bits passed words
+      → Before s memory input types places firsts bits passed words
   unfolding System.after
   before {k} h =
       record {
         running = r;
         values = after k;
         holds = h .holds;
-        ascends = ascends k;
         typed = after-typed (r .given .sheet) (r .given .inputs) (r .given .memory) (r .wellTyped) (r .validInputs) (r .validMemory) k;
+        known = h .known;
       }
 
   -- One round more.
-  module _ {k bits grown : ℕ} {words new : List ℕ} (h : Rounded k bits words)
-      (made : (b : Before s memory input types places firsts bits words) → Holds (length types) grown new (roundOf (b .running) (b .values))) where
+  module _ {k bits passed grown : ℕ} {words new : List ℕ} (h : Rounded k bits passed words)
+      (made : (b : Before s memory input types places firsts bits passed words)
+      → Holds (length types) grown new (System.roundOver (roundOf (b .running)) (member passed) (b .values))) where
     next : Holds (length types) grown new (after (suc k))
-    unfolding System.after before
-    next = made (before h)
+    unfolding before
+    next = rw (h .whole) at (made (before h))
 
     sizes : length (after k) ≡ length (after (suc k))
     sizes = h .holds .size ∙ sym (next .size)
@@ -112,11 +133,38 @@ module _ {s memory input types places firsts : List ℕ} (r : Running s memory i
     unchanged-same : after k ≡ after (suc k) → tally (member grown) 64 ≡ tally (member bits) 64
     unchanged-same e = held-count next (r .few) ∙ ap knownCount (sym e) ∙ sym (held-count (h .holds) (r .few))
 
-    pub one-more : (tally (member grown) 64 ≡ tally (member bits) 64 → ⊥) → Rounded (k + 1) grown new
-    one-more differ = record {
-      holds = rw add-one next;
-      changed = below-more (λ j. after j ≡ after (suc j) → ⊥) k (h .changed) (λ e. differ (unchanged-same e));
-    }
+    -- The wires that are not due, by those that are new.
+    module _ {news over : ℕ} (new-are : (x : ℕ) → member news x ≡ (member grown x && not (member bits x)))
+        (not-due : NotDue reads grown news (length types) over) where
+      none-due : NoneDue (r .given .sheet) (member over) (after k) (after (suc k))
+      none-due =
+          record {
+            rests = λ w l p u x a v.
+                let inside : w < length types = omega (arith, wires-counted r) in
+                let apart = not-due .each w inside .only p (unknown-out next w u) in
+                let old = apart x (run .reading w inside .same x ∙ a) in
+                out-unknown next x
+                (not-new (member grown x) (member bits x) (sym (new-are x) ∙ old) (unknown-out (h .holds) x v));
+          }
+
+      known-over : (w : ℕ) → member grown w ≡ true → member over w ≡ true
+      known-over w e = go (ltb w (length types)) refl
+        where
+          go : (t : Bool) → ltb w (length types) ≡ t → member over w ≡ true
+          go true l = not-due .each w (ltb-true w (length types) l) .whereKnown e
+          go false l = never (cc (next .beyond w (ltb-false w (length types) l)))
+
+      pub one-more : (tally (member grown) 64 ≡ tally (member bits) 64 → ⊥) → Rounded (k + 1) grown over new
+      unfolding System.after
+      one-more differ =
+          let given = r .given in
+          let whole = due-whole (given .sheet) (given .inputs) (given .memory) (member over) (after k) (ascends k) none-due in
+          record {
+            holds = rw add-one next;
+            changed = below-more (λ j. after j ≡ after (suc j) → ⊥) k (h .changed) (λ e. differ (unchanged-same e));
+            known = known-over;
+            whole = rw add-one whole;
+          }
 
     pub ended : tally (member grown) 64 ≡ tally (member bits) 64
         → Holds (length types) grown new (finished (r .given .sheet) (r .given .inputs) (r .given .memory))

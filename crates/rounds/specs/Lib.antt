@@ -1,3 +1,4 @@
 pub mod Running
+pub mod Due
 pub mod Outputs
 pub mod Laws

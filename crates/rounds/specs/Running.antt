@@ -12,11 +12,11 @@ use Rattle.sheet.specs.Rows.{entryAt}
 use Rattle.sheet.specs.Sheets.{sheetForms}
 use Rattle.sheet.specs.Typing.{WellTyped, ValidInputs, ValidMemory}
 use Rattle.sheet.specs.declared.Datum.{Datum}
-use Rattle.sheet_check.specs.Map.{StartsAt, runOf}
+use Rattle.sheet_check.specs.Map.{StartsAt, HoldsJust, runOf}
 use Rattle.kernel.specs.Values.{Fits}
-use Rattle.kernel.specs.Order.{valueAt, _⊑*_}
+use Rattle.kernel.specs.Order.{valueAt}
 use Rattle.kernel.specs.Instant.{inputAt}
-use Rattle.kernel.specs.Instants.{round}
+use Rattle.kernel.specs.Instants.{readsAt, round}
 use Rattle.kernel.specs.Calls.{Given}
 use Rattle.kernel.specs.Laws.Typing.{OnWires}
 use Rattle.kernel.specs.declared.Value.{Value}
@@ -45,6 +45,11 @@ pub record Running (s memory input types places firsts : List ℕ) : Type 0 wher
   pub validInputs : ValidInputs (given .sheet) (given .inputs)
   pub validMemory : ValidMemory (given .sheet) (given .memory)
 
+-- what runs, with the set of the wires that each wire reads within the instant
+pub record RunningReads (s memory input types places firsts reads : List ℕ) : Type 0 where
+  pub running : Running s memory input types places firsts
+  pub reading : (w : ℕ) → w < length types → HoldsJust (getD reads w 0) (readsAt (running .given .sheet .expressions) w)
+
 -- an unknown wire is not in the set, and its word is free: nobody reads it; a known one is in it, and its word stands for its datum
 pub data Held : Bool → ℕ → Value → Type 0 where
   unheld : {word : ℕ} → Held false word Unknown
@@ -61,16 +66,16 @@ pub record Holds (n bits : ℕ) (words : List ℕ) (values : List Value) : Type 
 abbrev pub roundOf : {s memory input types places firsts : List ℕ} → Running s memory input types places firsts → List Value → List Value
 roundOf r = round (r .given .sheet) (r .given .inputs) (r .given .memory)
 
--- what runs, with the values before a round, which it makes grow
-pub record Before (s memory input types places firsts : List ℕ) (bits : ℕ) (words : List ℕ) : Type 0 where
+-- what runs, with the values before a round and the set of the wires that it passes over, all known ones among them
+pub record Before (s memory input types places firsts : List ℕ) (bits passed : ℕ) (words : List ℕ) : Type 0 where
   pub running : Running s memory input types places firsts
   pub values : List Value
   pub holds : Holds (length types) bits words values
-  pub ascends : values ⊑* roundOf running values
   pub typed : OnWires Fits (running .given .sheet .wireTypes) values
+  pub known : (w : ℕ) → member bits w ≡ true → member passed w ≡ true
 
 -- the value of wire w was put into a set and words: an unknown one changes nothing
 pub data Put (w bits : ℕ) (words : List ℕ) : Value → (after : ℕ) → List ℕ → Type 0 where
-  passed : {after : ℕ} {new : List ℕ} → after ≡ bits → new ≡ words → Put w bits words Unknown after new
+  left : {after : ℕ} {new : List ℕ} → after ≡ bits → new ≡ words → Put w bits words Unknown after new
   put : {d : Datum} {after : ℕ} {new : List ℕ} → ((k : ℕ) → member after k ≡ (member bits k || eqb k w)) → new ≡ set words w (wordOf d)
       → Put w bits words (Known d) after new

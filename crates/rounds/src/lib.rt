@@ -1,15 +1,20 @@
-// The rounds of an instant, each of which works all wires out from the values before it, and the output row of the words.
+// The rounds of an instant, each of which works the wires that are due out from the values before it, and the output row of the words.
 // Rests on `expression` for the value of one expression and on `wires` for the set of known wires.
 use expression::value;
 use kernel::Value;
 use sheet::data;
 use sheet_check::map;
 use wires::Wires;
+
+pub mod due;
+
 ghost use mathlib.Core.Path.{_≡_};
 ghost use Prim.Native.Nat.{_*_, _≤_, _<_};
 ghost use lib.ListN.{length};
+ghost use Rattle.wires.specs.Sets.{member};
+ghost use Rattle.kernel.specs.Systems.{roundOver};
 ghost use Rattle.kernel.specs.Instants.{rounds, finished};
-ghost use Rattle.rounds.specs.Running.{Running, Holds, roundOf, Before, Put};
+ghost use Rattle.rounds.specs.Running.{RunningReads, Holds, roundOf, Before, Put};
 ghost use Rattle.rounds.specs.Outputs.{Below, wordsOf};
 
 // What the rounds of an instant come to: the wires that are known, and the rounds that were made.
@@ -32,7 +37,8 @@ pub fn put_value(worth: Value, wire: usize, known: Wires, words: &mut [u32; 64])
     }
 }
 
-// One round: all wires are worked out from the values before, each where the map says; the set of known wires comes back, grown or the same.
+// One round over the wires that are not passed over: each is worked out from the values before, where the map says; the set of known wires
+// comes back, grown or the same. Those known before are all passed over, so that their words stay while the round reads them.
 fn round(
     sheet: &[u8],
     memory: &[u8],
@@ -40,16 +46,20 @@ fn round(
     types: &[u8],
     places: &[u16; 64],
     firsts: &[u8; 64],
-    known: Wires,
+    before: Wires,
+    passed: Wires,
     words: &mut [u32; 64],
 ) -> Wires
-    requires { ⌜ Before (now sheet) (now memory) (now input) (now types) (now places) (now firsts) (known .bits) (now words) ⌝ }
+    requires { ⌜ Before (now sheet) (now memory) (now input) (now types) (now places) (now firsts)
+        (before .bits) (passed .bits) (now words) ⌝ }
     ensures { λ r. ⌜ ((b : Before (now (sheet .entry)) (now (memory .entry)) (now (input .entry)) (now (types .entry))
-        (now (places .entry)) (now (firsts .entry)) (known .bits) (now (words .entry)))
-        → Holds (length (now (types .entry))) (r .bits) (now (words .exit)) (roundOf (b .running) (b .values))) ⌝ }
+        (now (places .entry)) (now (firsts .entry)) (before .bits) (passed .bits) (now (words .entry)))
+        → Holds (length (now (types .entry))) (r .bits) (now (words .exit))
+        (roundOver (roundOf (b .running)) (member (passed .bits)) (b .values))) ⌝ }
 {
-    let mut grown = Wires::none();
-    let mut w = 0;
+    let mut grown = before;
+    let mut seen = passed;
+    let mut w = passed.lowest_missing() as usize;
     while w < types.len() {
         let at = map::place(places[w]);
         let cell = map::first(firsts[w]);
@@ -57,7 +67,7 @@ fn round(
             sheet,
             &input,
             &memory,
-            known,
+            before,
             words,
             16,
             types[w],
@@ -67,12 +77,13 @@ fn round(
         );
         let worth = v.value;
         grown = put_value(worth, w, grown, words);
-        w += 1;
+        seen = seen.with(w);
+        w = seen.lowest_missing() as usize;
     }
     grown
 }
 
-// The rounds from all wires unknown to the first that changes nothing.
+// The rounds from all wires unknown to the first that changes nothing; from the second on, each goes over the wires that are due.
 pub fn finish(
     sheet: &[u8],
     memory: &[u8],
@@ -80,20 +91,32 @@ pub fn finish(
     types: &[u8],
     places: &[u16; 64],
     firsts: &[u8; 64],
+    reads: &[u64; 64],
     words: &mut [u32; 64],
 ) -> Finished
-    requires { ⌜ Running (now sheet) (now memory) (now input) (now types) (now places) (now firsts)
+    requires { ⌜ RunningReads (now sheet) (now memory) (now input) (now types) (now places) (now firsts) (now reads)
         × (length (now types) ≤ length (now words)) ⌝ }
-    ensures { λ r. ⌜ ((run : Running (now (sheet .entry)) (now (memory .entry)) (now (input .entry)) (now (types .entry)) (now (places .entry))
-        (now (firsts .entry)))
+    ensures { λ r. ⌜ ((run : RunningReads (now (sheet .entry)) (now (memory .entry)) (now (input .entry)) (now (types .entry))
+        (now (places .entry)) (now (firsts .entry)) (now (reads .entry)))
         → Holds (length (now (types .entry))) (r .known .bits) (now (words .exit))
-        (finished (run .given .sheet) (run .given .inputs) (run .given .memory))
-        × (r .rounds ≡ rounds (run .given .sheet) (run .given .inputs) (run .given .memory))) ⌝ }
+        (finished (run .running .given .sheet) (run .running .given .inputs) (run .running .given .memory))
+        × (r .rounds ≡ rounds (run .running .given .sheet) (run .running .given .inputs) (run .running .given .memory))) ⌝ }
 {
     let mut known = Wires::none();
+    let mut passed = Wires::none();
     let mut rounds = 0;
     loop {
-        let grown = round(sheet, memory, input, types, places, firsts, known, words);
+        let grown = round(
+            sheet,
+            memory,
+            input,
+            types,
+            places,
+            firsts,
+            known,
+            passed,
+            words,
+        );
         let made = rounds + 1;
         if grown.count() == known.count() {
             return Finished {
@@ -101,6 +124,8 @@ pub fn finish(
                 rounds: made,
             };
         }
+        let news = grown.minus(known);
+        passed = due::not_due(reads, grown, news, types.len());
         known = grown;
         rounds = made;
     }

@@ -1,17 +1,17 @@
--- What the bit operations of `Wires` do to the set: shift, or, and, the count of ones, the zeros below the lowest one.
-use Prim.Native.Nat.{ℕ, zero, suc, _+_, _-_, _*_, _/_, _%_, _^_, _<_}
+-- What the bit operations of `Wires` do to the set: shift, or, and, complement, the count of ones, the zeros below the lowest one.
+use Prim.Native.Nat.{ℕ, zero, suc, _+_, _-_, _*_, _/_, _%_, _^_, _≤_, _<_}
 use mathlib.Core.Path.{_≡_, refl, sym, ap, ap₂, _∙_}
-use mathlib.Core.Bool.{Bool, true, false, cond, _||_, true≢false}
+use mathlib.Core.Bool.{Bool, true, false, cond, not, _&&_, _||_, true≢false}
 use native.Mathlib.Nat.{mod-lt, mod-eq-of-lt, mod-one, div-one, div-eq-of-lt, mul-mod-left, mul-div-cancel}
-use native.Mathlib.Nat.{pow-suc, zero-lt-suc, zero-div, one-mul}
+use native.Mathlib.Nat.{pow-suc, zero-lt-suc, lt-of-lt-of-le, zero-div, one-mul}
 use native.Mathlib.Numerals.{one-add}
 use native.Mathlib.Omega.{arith}
-use lib.Dec.{eqb, eqb·suc-suc, eqb·zero-suc, eqb·suc-zero, lit<}
-use lib.Bits.{bitOr, bitAnd, or-shr, or-mod, or-lt, and-mask}
+use lib.Dec.{eqb, ltb, eqb·suc-suc, eqb·zero-suc, eqb·suc-zero, lit<}
+use lib.Bits.{bitOr, bitAnd, or-shr, or-mod, or-lt, and-shr, and-mod, and-lt, and-mask}
 use lib.Count.{ones, ones-cat, ones-ones, trailingZeros, under, trailing-le}
-use lib.Pow.{pow-pos, pow-lt, shr-shr, mod-pow-add}
-use borrow.Author.Tests.{eqb-true, eq-eqb, ne-eqb}
-use Rattle.wires.specs.Sets.{member, tally, LowestMissing, TestsWithin}
+use lib.Pow.{pow-pos, pow-mono, pow-lt, shr-shr, mod-pow-add}
+use borrow.Author.Tests.{eqb-true, eq-eqb, ne-eqb, ltb-true, ltb-false, not-false}
+use Rattle.wires.specs.Sets.{member, tally, LowestMissing, TestsMeeting, TestsWithin}
 
 -- one digit further up is one digit of the half
 half : (n k : ℕ) → n / 2 ^ suc k ≡ n / 2 / 2 ^ k
@@ -117,6 +117,66 @@ within-is n m hn hm =
           (same-members 64 (bitOr n m) m (or-lt 64 n m hn hm) hm (λ k. or-member n m k ∙ or-right (member n k) (member m k) (h k)));
     }
 
+-- Members of the meet of two sets, and of a set without another.
+
+digit-and : (p q : ℕ) → p < 2 → q < 2 → eqb (bitAnd p q) 1 ≡ (eqb p 1 && eqb q 1)
+digit-and zero q hp hq = refl
+digit-and (suc zero) zero hp hq = refl
+digit-and (suc zero) (suc zero) hp hq = refl
+digit-and (suc zero) (suc (suc q)) hp hq = absurd (omega arith)
+digit-and (suc (suc p)) q hp hq = absurd (omega arith)
+
+and-member : (a b k : ℕ) → member (bitAnd a b) k ≡ (member a k && member b k)
+unfolding member
+and-member a b k =
+    ap (λ (x : ℕ). eqb (x % 2) 1) (and-shr a b k) ∙ ap (λ (x : ℕ). eqb x 1) (and-mod (a / 2 ^ k) (b / 2 ^ k) 1)
+    ∙ digit-and (a / 2 ^ k % 2) (b / 2 ^ k % 2) (omega arith) (omega arith)
+
+both-false : (a b : Bool) → (a ≡ true → b ≡ false) → (a && b) ≡ false
+both-false true b h = h refl
+both-false false b h = refl
+
+pub meets-is : (n m : ℕ) → n < 2 ^ 64 → m < 2 ^ 64 → TestsMeeting n m (not (eqb (bitAnd n m) 0))
+meets-is n m hn hm =
+    record {
+      apart = λ e k i.
+          ap (λ b. b && member m k) (sym i) ∙ sym (and-member n m k)
+          ∙ ap (λ (x : ℕ). member x k) (eqb-true (bitAnd n m) 0 (not-false _ e)) ∙ none-in k;
+      only = λ h. ap not
+          (eq-eqb (bitAnd n m) 0
+          (same-members 64 (bitAnd n m) 0 (and-lt 64 n m hn hm) (omega arith)
+          (λ k. and-member n m k ∙ both-false (member n k) (member m k) (h k) ∙ sym (none-in k))));
+    }
+
+-- the complement of n at one digit more, its lowest digit and the rest
+turned-digits : (k n : ℕ) → n < 2 ^ suc k
+    → ((2 ^ suc k - 1 - n) % 2 ≡ 1 - n % 2) × ((2 ^ suc k - 1 - n) / 2 ≡ 2 ^ k - 1 - n / 2)
+turned-digits k n h = let l : n < 2 ^ k * 2 = rw pow-suc at h in rw pow-suc (omega arith, omega arith)
+
+digit-not : (d : ℕ) → d < 2 → eqb (1 - d) 1 ≡ not (eqb d 1)
+digit-not zero h = refl
+digit-not (suc zero) h = refl
+digit-not (suc (suc d)) h = absurd (omega arith)
+
+not-member : (j n k : ℕ) → n < 2 ^ j → k < j → member (2 ^ j - 1 - n) k ≡ not (member n k)
+not-member zero n k h l = absurd (omega arith)
+not-member (suc j) n zero h l =
+    rw (member-zero n, member-zero (2 ^ suc j - 1 - n), turned-digits j n h .0) (digit-not (n % 2) (omega arith))
+not-member (suc j) n (suc k) h l =
+    rw (member-suc n k, member-suc (2 ^ suc j - 1 - n) k, turned-digits j n h .1) (not-member j (n / 2) k (halves j n h) (omega arith))
+
+-- no digit stands at k or above it
+beyond : (n j k : ℕ) → n < 2 ^ j → j ≤ k → member n k ≡ false
+unfolding member
+beyond n j k h l = rw (div-eq-of-lt (lt-of-lt-of-le h (pow-mono l)))
+
+pub minus-is : (n m k : ℕ) → n < 2 ^ 64 → m < 2 ^ 64 → member (bitAnd n (2 ^ 64 - 1 - m)) k ≡ (member n k && not (member m k))
+minus-is n m k hn hm = and-member n (2 ^ 64 - 1 - m) k ∙ go (ltb k 64) refl
+  where
+    go : (t : Bool) → ltb k 64 ≡ t → (member n k && member (2 ^ 64 - 1 - m) k) ≡ (member n k && not (member m k))
+    go true e = rw (not-member 64 m k hm (ltb-true k 64 e))
+    go false e = rw (beyond n 64 k hn (ltb-false k 64 e))
+
 -- The lowest that is missing.
 
 -- what the code counts at k digits: the zeros below the lowest one of the complement
@@ -127,10 +187,7 @@ lowest k n = trailingZeros k (2 ^ k - 1 - n)
 turned : (k n : ℕ) → n < 2 ^ suc k → lowest (suc k) n ≡ under (1 - n % 2) (lowest k (n / 2))
 unfolding trailingZeros
 turned k n h =
-    let l : n < 2 ^ k * 2 = rw pow-suc at h in
-    let p : (2 ^ k * 2 - 1 - n) % 2 ≡ 1 - n % 2 = omega arith in
-    let q : (2 ^ k * 2 - 1 - n) / 2 ≡ 2 ^ k - 1 - n / 2 = omega arith in
-    rw (pow-suc, p, q)
+    let (low, rest) = turned-digits k n h in rw (low, rest)
 
 below : (k n j : ℕ) → n < 2 ^ k → j < lowest k n → member n j ≡ true
 unfolding trailingZeros

@@ -1,10 +1,12 @@
 -- Laws of counting and of the lowest missing number, for any set: what callers need to know of the definitions.
 use Prim.Native.Nat.{ℕ, zero, suc, _+_, _-_, _≤_, _<_}
 use mathlib.Core.Path.{_≡_, refl, sym, ap, _∙_}
-use mathlib.Core.Bool.{Bool, true, false, cond, true≢false}
+use mathlib.Core.Bool.{Bool, true, false, cond, _||_, or-true, true≢false}
 use native.Mathlib.Nat.{suc-add, zero-add, le-antisymm, lt-of-not-le}
 use native.Mathlib.Omega.{arith}
+use lib.Dec.{eqb}
 use borrow.Author.Count.{below-more}
+use borrow.Author.Tests.{eq-eqb}
 use Rattle.wires.specs.Sets.{tally, LowestMissing}
 
 -- the count below n depends only on the members below n
@@ -81,3 +83,14 @@ lowest-missing-unique f k r s p q = le-antisymm (at-most p q) (at-most q p)
     at-most {r} {s} p q =
         let h : r < suc s = lt-of-not-le (λ (l : s < r). true≢false (sym (p .below s l) ∙ q .missing (omega arith))) in
         omega arith
+
+-- with the lowest missing number added, the lowest missing one is higher
+pub lowest-missing-rises : (f g : ℕ → Bool) (k r s : ℕ) → LowestMissing f k r → r < k → ((j : ℕ) → g j ≡ (f j || eqb j r))
+    → LowestMissing g k s → r < s
+lowest-missing-rises f g k r s p l added q =
+    lt-of-not-le (λ (m : s ≤ r). true≢false (sym (within s m) ∙ q .missing (omega arith)))
+  where
+    within : (j : ℕ) → j ≤ r → g j ≡ true
+    within j m =
+        let here : (f r || eqb r r) ≡ true = rw (eq-eqb r r refl) (or-true (f r)) in
+        added j ∙ below-more (λ i. (f i || eqb i r) ≡ true) r (λ i n. rw (p .below i n)) here j (omega arith)

@@ -13,6 +13,15 @@ pub record TestsWithin (n m : ℕ) (r : Bool) : Type 0 where
   pub all : r ≡ true → (k : ℕ) → member n k ≡ true → member m k ≡ true
   pub only : ((k : ℕ) → member n k ≡ true → member m k ≡ true) → r ≡ true
 
+-- no wire of the set whose bits are n is in the one whose bits are m
+abbrev pub Apart : ℕ → ℕ → Type 0
+Apart n m = (k : ℕ) → member n k ≡ true → member m k ≡ false
+
+-- r says whether some wire is in both sets
+pub record TestsMeeting (n m : ℕ) (r : Bool) : Type 0 where
+  pub apart : r ≡ false → Apart n m
+  pub only : Apart n m → r ≡ false
+
 -- how many numbers below k pass a test
 unfoldable pub tally : (ℕ → Bool) → ℕ → ℕ
 tally f zero = zero

@@ -1,9 +1,9 @@
 // The set of known wires, held as 64 bits by value: wire k is in the set where bit k is 1.
 ghost use mathlib.Core.Path.{_≡_};
 ghost use Prim.Native.Nat.{ℕ, _<_};
-ghost use mathlib.Core.Bool.{_||_, false};
+ghost use mathlib.Core.Bool.{_&&_, _||_, not, false};
 ghost use lib.Dec.{eqb};
-ghost use Rattle.wires.specs.Sets.{member, tally, LowestMissing, TestsWithin};
+ghost use Rattle.wires.specs.Sets.{member, tally, LowestMissing, TestsMeeting, TestsWithin};
 
 // A set of wires, each below 64.
 pub struct Wires {
@@ -41,6 +41,22 @@ impl Wires {
         ensures { λ r. ⌜ TestsWithin (self .bits) (other .bits) r ⌝ }
     {
         self.bits | other.bits == other.bits
+    }
+
+    // Whether some wire is both in the set and in `other`.
+    pub fn meets(self, other: Wires) -> bool
+        ensures { λ r. ⌜ TestsMeeting (self .bits) (other .bits) r ⌝ }
+    {
+        self.bits & other.bits != 0
+    }
+
+    // The set without the wires of `other`.
+    pub fn minus(self, other: Wires) -> Wires
+        ensures { λ r. ⌜ ((k : ℕ) → member (r .bits) k ≡ (member (self .bits) k && not (member (other .bits) k))) ⌝ }
+    {
+        Wires {
+            bits: self.bits & !other.bits,
+        }
     }
 
     // How many wires are in the set.

@@ -5,7 +5,7 @@ use native.Mathlib.Omega.{arith}
 use lib.ListN.{length}
 use borrow.Author.Needs.{needs}
 use borrow.Author.Tests.{eqb-true, eqb-false}
-use Rattle.instant.proofs.Laying.{Laid, laid}
+use Rattle.instant.proofs.Laying.{Laid, laid, laidReads}
 use Rattle.instant.proofs.Calling.{settled, row-fits, unknown-refused, rounds-accepted}
 use Rattle.instant.proofs.solve_in_rounds.Statement.{statement}
 use Rattle.instant.proofs.solve_in_rounds.Tie as tie
@@ -42,7 +42,7 @@ part-types-end : tie.Need-part-types-end
 part-types-end c = omega (arith, laid-of (c .before .before) .within)
 
 finish-requires : tie.Need-finish-requires
-finish-requires c κs = let l = laid-of (c .before .before .before .before .before) in (l .running, l .running .few)
+finish-requires c κs = let l = laid-of (c .before .before .before .before .before) in (laidReads l, l .running .few)
 
 count-requires : tie.Need-count-requires
 count-requires c κs = search needs
@@ -54,7 +54,7 @@ store-requires : tie.Need-store-requires
 store-requires c κs =
     let solved = c .before .before .before .before .before in
     let l = laid-of (slices solved) in
-    settled l (solved .finish .ensures (l .running) .0)
+    settled l (solved .finish .ensures (laidReads l) .0)
 
 sub-write-row : tie.Need-sub-write-row
 sub-write-row c = search needs
@@ -66,7 +66,8 @@ part-write-row-end : tie.Need-part-write-row-end
 part-write-row-end c = omega (arith, laid-of (slices (c .before .before .before .before .before .before .before .before)) .within)
 
 write-row-requires : tie.Need-write-row-requires
-write-row-requires c κs = row-fits (laid-of (slices (c .before .before .before .before .before .before .before .before .before .before .before)))
+write-row-requires c κs =
+    row-fits (laid-of (slices (c .before .before .before .before .before .before .before .before .before .before .before)))
 
 answered-requires : tie.Need-answered-requires
 answered-requires c κs = search needs
@@ -83,11 +84,11 @@ returns : tie.Need-returns
 returns c =
     let solved = c .before .before .before .before in
     let l = laid-of (slices solved) in
-    let h = solved .finish .ensures (l .running) .0 in
+    let h = solved .finish .ensures (laidReads l) .0 in
     let counted = c .before .before .count .ensures in
     ⊎-elim
     (λ w. rounds-accepted l h (c .answered .ensures) (w .0 .taken) (sym counted ∙ eqb-true _ _ (w .0 .taken))
-    (solved .finish .ensures (l .running) .1) (w .12 ∙ w .3 .ensures (settled l h)) (w .13 ∙ w .9 .ensures))
+    (solved .finish .ensures (laidReads l) .1) (w .12 ∙ w .3 .ensures (settled l h)) (w .13 ∙ w .9 .ensures))
     (λ w. unknown-refused l h (c .answered .ensures) (w .0 .left) (λ e. eqb-false _ _ (w .0 .left) (counted ∙ e)) (w .1) (w .2))
     (c .before .if1 .came)
 

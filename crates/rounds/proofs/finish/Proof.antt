@@ -1,21 +1,23 @@
--- `finish` meets its contract. The loop's invariant: so many rounds were made, each of which changed something.
+-- `finish` meets its contract. The loop's invariant: so many rounds were made, each of which changed something, and the next one comes
+-- to the same whether or not it goes over the wires that it is to pass over.
 use Prim.Native.Nat.{_-_, _≤_, _<_}
-use mathlib.Core.Path.{_≡_, refl, sym, _∙_}
+use mathlib.Core.Path.{_≡_, sym, _∙_}
 use native.Mathlib.Omega.{arith}
-use lib.ListN.{length}
 use Rattle.wires.specs.Sets.{member, tally}
 use Rattle.wires.specs.Laws.{tally-bound}
-use Rattle.rounds.specs.Running.{Running}
+use Rattle.rounds.specs.Running.{RunningReads}
 use Rattle.rounds.proofs.Finishing.{Rounded, unrounded, before, more-known, one-more, ended}
 use Rattle.rounds.proofs.finish.Statement.{statement}
 use Rattle.rounds.proofs.finish.Tie as tie
 
 abbrev Inv-loop : tie.InvT-loop
-Inv-loop sheet memory input types places firsts words₀ known₀ rounds₀ words known rounds =
-    (rounds ≤ tally (member (known .bits)) 64) × ((run : Running sheet memory input types places firsts) → Rounded run rounds (known .bits) words)
+Inv-loop sheet memory input types places firsts reads words₀ known₀ passed₀ rounds₀ words known passed rounds =
+    (rounds ≤ tally (member (known .bits)) 64)
+    × ((run : RunningReads sheet memory input types places firsts reads) → Rounded run rounds (known .bits) (passed .bits) words)
 
 abbrev μ-loop : tie.MeasureT-loop
-μ-loop sheet memory input types places firsts words₀ known₀ rounds₀ words known rounds = 64 - tally (member (known .bits)) 64
+μ-loop sheet memory input types places firsts reads words₀ known₀ passed₀ rounds₀ words known passed rounds =
+    64 - tally (member (known .bits)) 64
 
 -- the counts of the two sets differ, so that the round knows more
 differ : (c : tie.Else1 Inv-loop μ-loop)
@@ -27,19 +29,24 @@ grew : (c : tie.Else1 Inv-loop μ-loop)
     → tally (member (c .before .before .before .before .before .loop .known .bits)) 64
     < tally (member (c .before .before .before .round .result .bits)) 64
 grew c =
-    let run = c .before .before .before .before .before .before .before .before .before .before .before .pre .0 in
-    more-known run (c .before .before .before .before .before .loop .inv .1 run)
-    (c .before .before .before .round .ensures) (differ c)
+    let loop = c .before .before .before .before .before in
+    let run = loop .before .before .before .before .before .before .before .pre .0 in
+    more-known run (loop .loop .inv .1 run) (c .before .before .before .round .ensures) (differ c)
 
 none-requires : tie.Need-none-requires Inv-loop μ-loop
 none-requires c κs = tt
 
+none-requires-2 : tie.Need-none-requires-2 Inv-loop μ-loop
+none-requires-2 c κs = tt
+
 loop-holds : tie.Need-loop-holds Inv-loop μ-loop
-loop-holds c = (omega arith, λ run. unrounded run (c .before .before .before .before .before .pre .1) (c .none .ensures))
+loop-holds c =
+    let room = c .before .before .before .before .before .before .pre .1 in
+    (omega arith, λ run. unrounded run room (c .before .none .ensures) (c .none2 .ensures))
 
 round-requires : tie.Need-round-requires Inv-loop μ-loop
 round-requires c κs =
-    let run = c .before .before .before .before .before .before .before .pre .0 in
+    let run = c .before .before .before .before .before .before .before .before .pre .0 in
     before run (c .before .loop .inv .1 run)
 
 add-made : tie.Need-add-made Inv-loop μ-loop
@@ -57,14 +64,26 @@ returns c = λ run.
     (c .before .before .before .round .ensures)
     (sym (c .before .before .count .ensures) ∙ c .if1 .taken ∙ c .before .count2 .ensures)
 
+minus-requires : tie.Need-minus-requires Inv-loop μ-loop
+minus-requires c κs = tt
+
+not-due-requires : tie.Need-not-due-requires Inv-loop μ-loop
+not-due-requires c κs =
+    let loop = c .before .before .before .before .before .before in
+    loop .before .before .before .before .before .before .before .pre .0 .running .few
+
 loop-less : tie.Need-loop-less Inv-loop μ-loop
-loop-less c = omega (arith, grew c, tally-bound (member (c .before .before .before .round .result .bits)) 64)
+loop-less c =
+    let left = c .before .before in
+    omega (arith, grew left, tally-bound (member (left .before .before .before .round .result .bits)) 64)
 
 loop-again : tie.Need-loop-again Inv-loop μ-loop
 loop-again c =
-    let l = c .before .before .before .before .before .loop in (
-      omega (arith, grew c, l .inv .0),
-      λ run. one-more run (l .inv .1 run) (c .before .before .before .round .ensures) (differ c),
+    let left = c .before .before in
+    let made = left .before .before .before in
+    let l = made .before .before .loop in (
+      omega (arith, grew left, l .inv .0),
+      λ run. one-more run (l .inv .1 run) (made .round .ensures) (c .before .minus .ensures) (c .not-due .ensures) (differ left),
     )
 
 pub finish-spec : {M : Type 1} → statement M
@@ -74,11 +93,14 @@ finish-spec =
     Inv-loop
     μ-loop
     none-requires
+    none-requires-2
     loop-holds
     round-requires
     add-made
     count-requires
     count-requires-2
     returns
+    minus-requires
+    not-due-requires
     loop-less
     loop-again)

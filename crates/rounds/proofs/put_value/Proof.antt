@@ -10,7 +10,7 @@ use Rattle.sheet.specs.Data.{wordOf}
 use Rattle.sheet.specs.declared.Datum.{Datum}
 use Rattle.kernel.specs.declared.Value.{Value}
 use Rattle.kernel.specs.declared.Value.the-variants.{Known}
-use Rattle.rounds.specs.Running.{Put, passed, put}
+use Rattle.rounds.specs.Running.{Put, left, put}
 use borrow.Author.Needs.{needs}
 use Rattle.rounds.proofs.put_value.Statement.{statement}
 use Rattle.rounds.proofs.put_value.Tie as tie
@@ -38,7 +38,7 @@ with-requires : tie.Need-with-requires
 with-requires c κs = search needs
 
 returns : tie.Need-returns
-returns c = rw (c .enum-told .given .1) (passed refl refl)
+returns c = rw (c .enum-told .given .1) (left refl refl)
 
 returns-2 : tie.Need-returns-2
 returns-2 c = known-put (c .before .before .before .worth .given .1) (c .with .ensures) (c .before .word-of .ensures)

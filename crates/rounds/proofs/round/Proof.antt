@@ -1,26 +1,31 @@
--- `round` meets its contract. The loop's invariant: the wires below w have their new values, and the words still hold the old ones.
-use Prim.Native.Nat.{_-_, _≤_}
+-- `round` meets its contract. The loop's invariant: w is the lowest wire that was not seen, those that were seen have their new values,
+-- and the words still hold the old ones.
+use Prim.Native.Nat.{_-_, _<_}
 use native.Mathlib.Omega.{arith}
-use lib.ListN.{length}
 use borrow.Author.Needs.{needs}
+use Rattle.wires.specs.Sets.{member, LowestMissing}
+use Rattle.wires.specs.Laws.{lowest-missing-rises}
 use Rattle.rounds.specs.Running.{Before}
 use Rattle.rounds.proofs.Rounding.{Midway, begun, placed, further, round-done}
 use Rattle.rounds.proofs.round.Statement.{statement}
 use Rattle.rounds.proofs.round.Tie as tie
 
 abbrev Inv-loop : tie.InvT-loop
-Inv-loop sheet t2 t3 types places firsts known words₀ memory input grown₀ w₀ words grown w =
-    (w ≤ length types)
-    × ((b : Before sheet t2 t3 types places firsts (known .bits) words₀) → Midway b w (grown .bits) words)
+Inv-loop sheet t2 t3 types places firsts before words₀ memory input grown₀ seen₀ w₀ words grown seen w =
+    LowestMissing (member (seen .bits)) 64 w
+    × ((b : Before sheet t2 t3 types places firsts (before .bits) (seen₀ .bits) words₀) → Midway b (seen .bits) (grown .bits) words)
 
 abbrev μ-loop : tie.MeasureT-loop
-μ-loop sheet t2 t3 types places firsts known words₀ memory input grown₀ w₀ words grown w = length types - w
+μ-loop sheet t2 t3 types places firsts before words₀ memory input grown₀ seen₀ w₀ words grown seen w = 64 - w
 
-none-requires : tie.Need-none-requires Inv-loop μ-loop
-none-requires c κs = tt
+lowest-missing-requires : tie.Need-lowest-missing-requires Inv-loop μ-loop
+lowest-missing-requires c κs = tt
+
+cast-w : tie.Need-cast-w Inv-loop μ-loop
+cast-w c = omega (arith, c .lowest-missing .ensures .within)
 
 loop-holds : tie.Need-loop-holds Inv-loop μ-loop
-loop-holds c = (omega arith, λ b. begun b (c .none .ensures))
+loop-holds c = (c .lowest-missing .ensures, λ b. begun b)
 
 mul-place : tie.Need-mul-place Inv-loop μ-loop
 mul-place c = search needs
@@ -42,33 +47,55 @@ shared-slice-read-value-expression c = omega arith
 
 value-expression-requires : tie.Need-value-expression-requires Inv-loop μ-loop
 value-expression-requires c κs =
-    let b = c .before .before .before .before .before .before .before .before .before .before .before .before .before .before .before .pre in
-    placed b (c .before .before .before .before .before .before .before .before .before .loop .inv .1 b) (c .before .before .before .before .before .before .before .before .loop-test .taken) (c .before .before .before .before .before .before .place .ensures) (c .before .before .before .before .first .ensures)
+    let first = c .before .before .before .before in
+    let test = first .before .before .before .before in
+    let b = test .before .before .before .before .before .before .before .pre in
+    placed b (test .before .loop .inv .1 b) (test .loop-test .taken) (first .before .before .place .ensures) (first .first .ensures)
 
 put-value-requires : tie.Need-put-value-requires Inv-loop μ-loop
 put-value-requires c κs =
-    let b = c .before .before .before .before .before .before .before .before .before .before .before .before .before .before .before .before .before .pre in
-    (omega (arith, b .running .few), omega (arith, c .before .before .before .before .before .before .before .before .before .before .before .loop .inv .1 b .holds .room))
+    let test = c .before .before .before .before .before .before .before .before .before .before in
+    let b = test .before .before .before .before .before .before .before .pre in
+    (omega (arith, b .running .few), omega (arith, b .running .few, test .before .loop .inv .1 b .holds .room))
 
-add-w : tie.Need-add-w Inv-loop μ-loop
-add-w c = omega arith
+with-requires : tie.Need-with-requires Inv-loop μ-loop
+with-requires c κs =
+    let test = c .before .before .before .before .before .before .before .before .before .before .before in
+    omega (arith, test .before .before .before .before .before .before .before .pre .running .few)
+
+lowest-missing-requires-2 : tie.Need-lowest-missing-requires-2 Inv-loop μ-loop
+lowest-missing-requires-2 c κs = tt
+
+cast-w-2 : tie.Need-cast-w-2 Inv-loop μ-loop
+cast-w-2 c = omega (arith, c .lowest-missing2 .ensures .within)
 
 loop-less : tie.Need-loop-less Inv-loop μ-loop
-loop-less c = omega arith
+loop-less c =
+    let test = c .before .before .before .before .before .before .before .before .before .before .before .before .before in
+    let l = test .before .loop in
+    let few = test .before .before .before .before .before .before .before .pre .running .few in
+    let low : l .w < 64 = omega (arith, few, test .loop-test .taken) in
+    omega (arith, low, lowest-missing-rises _ _ 64 _ _ (l .inv .0) low (c .before .with .ensures) (c .lowest-missing2 .ensures))
 
 loop-again : tie.Need-loop-again Inv-loop μ-loop
 loop-again c =
-    let l = c .before .before .before .before .before .before .before .before .before .before .before .before .loop in
-    let more = c .before .before .before .before .before .before .before .before .before .before .before .loop-test .taken in
-    let v = c .before .before .value-expression in
-    let at-is = c .before .before .before .before .before .before .before .before .before .place .ensures in
-    let cell-is = c .before .before .before .before .before .before .before .first .ensures in (
-      omega arith,
-      λ b. further b (l .inv .1 b) more at-is cell-is (v .result) (v .ensures (placed b (l .inv .1 b) more at-is cell-is)) (c .put-value .ensures),
+    let put = c .before .before in
+    let valued = put .before .before in
+    let first = valued .before .before .before .before .before in
+    let test = first .before .before .before .before in
+    let l = test .before .loop in
+    let more = test .loop-test .taken in
+    let v = valued .value-expression in
+    let at-is = first .before .before .place .ensures in
+    let cell-is = first .first .ensures in (
+      c .lowest-missing2 .ensures,
+      λ b. let m = l .inv .1 b in
+          further b m more (l .inv .0 .missing (omega (arith, b .running .few, more))) at-is cell-is (v .result)
+          (v .ensures (placed b m more at-is cell-is)) (put .put-value .ensures) (c .before .with .ensures),
     )
 
 returns : tie.Need-returns Inv-loop μ-loop
-returns c = λ b. round-done b (c .before .loop .inv .1 b) (omega arith)
+returns c = λ b. round-done b (c .before .loop .inv .1 b) (c .before .loop .inv .0) (omega arith)
 
 pub round-spec : {M : Type 1} → statement M
 round-spec =
@@ -76,7 +103,8 @@ round-spec =
     (tie.spec
     Inv-loop
     μ-loop
-    none-requires
+    lowest-missing-requires
+    cast-w
     loop-holds
     mul-place
     element-copy-out-place
@@ -86,7 +114,9 @@ round-spec =
     shared-slice-read-value-expression
     value-expression-requires
     put-value-requires
-    add-w
+    with-requires
+    lowest-missing-requires-2
+    cast-w-2
     loop-less
     loop-again
     returns)

@@ -1,4 +1,4 @@
--- What each function returns is the value of every placement, from what its calls answer: one law to each return.
+-- What each function of the value cycle returns holds of every placement, from what its calls answer: one law to each return.
 use Prim.Native.Nat.{ℕ, _+_, _≤_, _<_}
 use mathlib.Core.Path.{_≡_, refl, sym, ap, subst, _∙_}
 use mathlib.Core.Bool.{Bool, true, false, _||_, cond}
@@ -6,192 +6,181 @@ use mathlib.Core.List.{List}
 use native.Mathlib.Omega.{arith}
 use lib.Dec.{eqb, ltb}
 use lib.ListN.{getD, take}
-use borrow.Author.Tests.{eq-eqb, ne-eqb, eqb-true, eqb-false, ltb-true, ltb-false}
-use Rattle.sheet.specs.Data.{typeOfByte, datumOf}
-use Rattle.sheet.specs.Expressions.{Expression, choose, present, conditional}
+use borrow.Author.Tests.{ne-eqb, ltb-true, ltb-false}
+use Rattle.sheet.specs.Data.{typeOfByte, datumOf, wordOf}
 use Rattle.sheet.specs.Kinds.{bodyOf, countOf, operandsOf}
-use Rattle.sheet.specs.Memory.{readCell}
+use Rattle.sheet.specs.Memory.{cellWordAt}
 use Rattle.sheet.specs.Readings.{bodyAt}
-use Rattle.sheet.specs.declared.Datum.{Datum}
-use Rattle.sheet.specs.declared.Cell.{Cell}
-use Rattle.sheet.specs.declared.Cell.the-variants.{NotStarted, Started}
 use Rattle.sheet_walk.specs.declared.skip.Skipped.{Skipped}
-use Rattle.kernel.specs.Values.{truth, whenKnown, isTrue, isUnknown}
-use Rattle.kernel.specs.Operations.{unaryOf, binaryOf, unaryValue, binaryValue}
-use Rattle.kernel.specs.Instant.{value, cellAt, chosen, heldOr, knownOr}
+use Rattle.kernel.specs.Operations.{unaryOf, binaryOf}
 use Rattle.kernel.specs.declared.Value.{Value}
-use Rattle.kernel.specs.declared.Value.the-variants.{Unknown, Known}
+use Rattle.kernel.specs.declared.Value.the-variants.{Unknown}
+use Rattle.operations.specs.Words.{unaryWord, binaryWord}
 use Rattle.expression.specs.declared.Valued.{Valued}
-use Rattle.expression.specs.Places.{Placement, valueOfWord, valuedOf}
-use Rattle.expression.specs.Leaves.{knownBy, leafWord, leafValued}
-use Rattle.expression.proofs.Views.{placed, readable, Alone, Three, own-cell}
+use Rattle.expression.specs.Places.{Placement, isSeen, preWord, wholeValue, Gives, Yields, unknown, known}
+use Rattle.expression.specs.Leaves.{knownBy, leafValued}
+use Rattle.expression.proofs.Views.{placed, readable, own-types}
 use Rattle.expression.proofs.Views.{unary-view, binary-view, conditional-view, present-view, reset-view, fby-view, pre-view}
-use Rattle.expression.proofs.Views.{constant-view, wire-view, input-view}
-use Rattle.expression.proofs.Values.{Answers, Walked, by-value, by-walk, value-behind, walk-behind, operandValue, wholeValue, finished}
-use Rattle.expression.proofs.Values.{unary-value, binary-value, choose-value, choice-unknown, first-chosen, second-chosen}
-use Rattle.expression.proofs.Values.{reset-unknown, reset-known, fby-value}
+use Rattle.expression.proofs.Values.{as-known, as-unknown, Answers, Walked, by-value, by-walk, value-behind, walk-behind}
+use Rattle.expression.proofs.Values.{unary-value, binary-value, choose-value, reset-value}
+use Rattle.expression.proofs.Giving.{unary-gives, binary-gives, conditional-gives, present-gives-first, present-gives-second}
+use Rattle.expression.proofs.Giving.{reset-gives, fby-left, fby-gives-left, fby-gives-cell, pre-gives, leaf-value, leaf-gives}
 
-module _ {sheet row memory words : List ℕ} {bits level asked at cell : ℕ}
-    (p : Placement sheet row memory words bits level asked at cell) (fresh : Bool) where
+module _ {sheet memory words : List ℕ} {bits level asked at cell : ℕ}
+    (p : Placement sheet memory words bits level asked at cell) (fresh : Bool) where
   abbrev kind : ℕ
   kind = getD sheet at 0
 
-  pub unary-answer : (types : List ℕ) → take (countOf kind) types ≡ operandsOf kind asked
-      → 4 ≤ kind → kind < 6
-      → {a : Valued} → Answers p (getD types 0 0) (at + 1) cell fresh a
-      → {v : Value} → v ≡ unaryValue (unaryOf kind) (a .value)
-      → record { value = v; next = a .next; cell = a .cell } ≡ valuedOf p fresh
-  unary-answer types e low high h is =
-      let w = unary-view p types e low high in
-      let ea = h (placed p (w .first)) in
-      let ends = by-value p fresh (w .first) ea in
-      finished p fresh (w .ends) (is ∙ rw ea (sym (unary-value p fresh w))) (ends .next) (ends .count)
-
-  pub binary-answer : (types : List ℕ) → take (countOf kind) types ≡ operandsOf kind asked
-      → 6 ≤ kind → kind < 12
-      → {a b : Valued} → Answers p (getD types 0 0) (at + 1) cell fresh a → Answers p (getD types 1 0) (a .next) (a .cell) fresh b
-      → {v : Value} → v ≡ binaryValue (binaryOf kind) (a .value) (b .value)
-      → record { value = v; next = b .next; cell = b .cell } ≡ valuedOf p fresh
-  binary-answer types e low high ha hb is =
-      let w = binary-view p types e low high in
-      let ea = ha (placed p (w .first)) in
-      let eb = value-behind p (by-value p fresh (w .first) ea) fresh hb (w .second) in
-      let ends = by-value p fresh (w .second) eb in
-      finished p fresh (w .ends) (is ∙ rw (ea, eb) (sym (binary-value p fresh w))) (ends .next) (ends .count)
-
-  pub conditional-answer : kind ≡ 12 → {c a b : Valued} → Answers p 0 (at + 1) cell fresh c
-      → Answers p asked (c .next) (c .cell) fresh a → Answers p asked (a .next) (a .cell) fresh b
-      → {v : Value} → v ≡ whenKnown (c .value) (λ t. chosen conditional (truth t) (a .value) (b .value))
-      → record { value = v; next = b .next; cell = b .cell } ≡ valuedOf p fresh
-  conditional-answer of hc ha hb is =
-      let w = conditional-view p of in
-      let ec = hc (placed p (w .first)) in
-      let ea = value-behind p (by-value p fresh (w .first) ec) fresh ha (w .second) in
-      let eb = value-behind p (by-value p fresh (w .second) ea) fresh hb (w .third) in
-      let ends = by-value p fresh (w .third) eb in
-      finished p fresh (w .ends) (is ∙ rw (ec, ea, eb) (sym (choose-value p fresh w))) (ends .next) (ends .count)
-
-  module _ (of : kind ≡ 13) {c : Valued} (hc : Answers p 0 (at + 1) cell fresh c) where
-    -- the view of the present, whose condition has been valued
-    abbrev shown : Three p 0 asked asked (at + 1) cell (choose present)
-    shown = present-view p of
-
-    asked-condition : c ≡ valuedOf (placed p (shown .first)) fresh
-    asked-condition = hc (placed p (shown .first))
-
-    pub present-answer-first : isTrue (c .value) ≡ true → {a : Valued} {b : Skipped} → Answers p asked (c .next) (c .cell) fresh a
-        → Walked p (a .next) (a .cell) b → record { value = a .value; next = b .next; cell = b .cell } ≡ valuedOf p fresh
-    present-answer-first true-there ha hb =
-        let ec = asked-condition in
-        let ea = value-behind p (by-value p fresh (shown .first) ec) fresh ha (shown .second) in
-        let eb = walk-behind p (by-value p fresh (shown .second) ea) hb (shown .third) in
-        let ends = by-walk p (shown .third) eb in
-        let v = first-chosen p fresh shown (rw ec at true-there) in
-        finished p fresh (shown .ends) (ap (λ x. x .value) ea ∙ sym v) (ends .next) (ends .count)
-
-    pub present-answer-unknown : isUnknown (c .value) ≡ true → {a b : Skipped} → Walked p (c .next) (c .cell) a
-        → Walked p (a .next) (a .cell) b → record { value = Unknown; next = b .next; cell = b .cell } ≡ valuedOf p fresh
-    present-answer-unknown unknown-there ha hb =
-        let ec = asked-condition in
-        let ea = walk-behind p (by-value p fresh (shown .first) ec) ha (shown .second) in
-        let eb = walk-behind p (by-walk p (shown .second) ea) hb (shown .third) in
-        let ends = by-walk p (shown .third) eb in
-        let v = choice-unknown p fresh shown (rw ec at unknown-there) in
-        finished p fresh (shown .ends) (sym v) (ends .next) (ends .count)
-
-    pub present-answer-second : isTrue (c .value) ≡ false → isUnknown (c .value) ≡ false → {a : Skipped} {b : Valued}
-        → Walked p (c .next) (c .cell) a → Answers p asked (a .next) (a .cell) fresh b → b ≡ valuedOf p fresh
-    present-answer-second false-there known-there ha hb =
-        let ec = asked-condition in
-        let ea = walk-behind p (by-value p fresh (shown .first) ec) ha (shown .second) in
-        let eb = value-behind p (by-walk p (shown .second) ea) fresh hb (shown .third) in
-        let v = second-chosen p fresh shown (rw ec at false-there) (rw ec at known-there) in
-        eb ∙ finished p fresh (shown .ends) (sym v) refl refl
-
-  module _ (of : kind ≡ 14) {c : Valued} (hc : Answers p 0 (at + 1) cell fresh c) where
-    pub reset-answer-unknown : isUnknown (c .value) ≡ true → {a : Skipped} → Walked p (c .next) (c .cell) a
-        → record { value = Unknown; next = a .next; cell = a .cell } ≡ valuedOf p fresh
-    reset-answer-unknown unknown-there ha =
-        let w = reset-view p of in
-        let ec = hc (placed p (w .first)) in
-        let ea = walk-behind p (by-value p fresh (w .first) ec) ha (w .second) in
-        let ends = by-walk p (w .second) ea in
-        finished p fresh (w .ends) (sym (reset-unknown p fresh w (rw ec at unknown-there))) (ends .next) (ends .count)
-
-    pub reset-answer : isUnknown (c .value) ≡ false → {fires : Bool} → fires ≡ isTrue (c .value) → {a : Valued}
-        → Answers p asked (c .next) (c .cell) (fires || fresh) a → a ≡ valuedOf p fresh
-    reset-answer known-there {fires} is ha =
-        let w = reset-view p of in
-        let ec = hc (placed p (w .first)) in
-        let ea = value-behind p (by-value p fresh (w .first) ec) (fires || fresh) ha (w .second) in
-        let v = reset-known p fresh w (rw ec at known-there) in
-        let same : operandValue p (fires || fresh) (w .second) ≡ wholeValue p fresh = rw (is, ec) (sym v) in
-        ea ∙ finished p fresh (w .ends) same refl refl
-
-  -- the cell that the code read is the instant's
-  own-kept : {kept : Cell} → 15 ≤ kind → kept ≡ readCell (typeOfByte asked) memory cell → kept ≡ cellAt (p .now .memory) cell
-  own-kept low is = is ∙ own-cell p low .reads
-
-  module _ (of : kind ≡ 17) {kept seen : Cell} (is : kept ≡ readCell (typeOfByte asked) memory cell)
-      (sees : seen ≡ cond fresh NotStarted kept) where
-    fby-seen : wholeValue p fresh ≡ knownOr (operandValue p fresh (fby-view p of .first)) seen
-    fby-seen = fby-value p fresh (fby-view p of) ∙ rw (sees, own-kept (omega arith) is)
-
-    pub fby-answer-left : seen ≡ NotStarted → {a : Valued} {b : Skipped} → Answers p asked (at + 1) (cell + 1) fresh a
-        → Walked p (a .next) (a .cell) b → record { value = a .value; next = b .next; cell = b .cell } ≡ valuedOf p fresh
-    fby-answer-left none ha hb =
-        let w = fby-view p of in
-        let ea = ha (placed p (w .first)) in
-        let eb = walk-behind p (by-value p fresh (w .first) ea) hb (w .second) in
-        let ends = by-walk p (w .second) eb in
-        let v : wholeValue p fresh ≡ operandValue p fresh (w .first) = fby-seen ∙ rw none in
-        finished p fresh (w .ends) (ap (λ x. x .value) ea ∙ sym v) (ends .next) (ends .count)
-
-    pub fby-answer-held : {d : Datum} → seen ≡ Started d → {a b : Skipped} → Walked p (at + 1) (cell + 1) a
-        → Walked p (a .next) (a .cell) b → record { value = Known d; next = b .next; cell = b .cell } ≡ valuedOf p fresh
-    fby-answer-held {d} some ha hb =
-        let w = fby-view p of in
-        let ea = ha (readable p (w .first)) in
-        let eb = walk-behind p (by-walk p (w .first) ea) hb (w .second) in
-        let ends = by-walk p (w .second) eb in
-        let v : wholeValue p fresh ≡ Known d = fby-seen ∙ rw some in
-        finished p fresh (w .ends) (sym v) (ends .next) (ends .count)
-
-  -- the code has the number in the body and the size of the body
-  module _ {body size : ℕ} (reads : body ≡ bodyAt sheet at) (sized : size ≡ bodyOf (kind)) where
-    pub pre-answer : 15 ≤ kind → kind < 17 → {constant datum : Datum} {kept : Cell}
-        → constant ≡ datumOf (typeOfByte asked) body → kept ≡ readCell (typeOfByte asked) memory cell
-        → datum ≡ heldOr constant (cond fresh (Started constant) kept) → {a : Skipped} → Walked p (at + 1 + size) (cell + 1) a
-        → record { value = Known datum; next = a .next; cell = a .cell } ≡ valuedOf p fresh
-    unfolding value
-    pre-answer low high {datum = datum} means is held {a} ha =
-        let w = pre-view p low high in
-        let ea = subst (λ (n : ℕ). Walked p (at + 1 + n) (cell + 1) a) sized ha (readable p (w .first)) in
-        let ends = by-walk p (w .first) ea in
-        let v : wholeValue p fresh ≡ Known datum =
-        ap (λ e. value (p .now) fresh e cell) (w .ends .tree) ∙ rw (held, own-kept low is, means, reads) in
-        finished p fresh (w .ends) (sym v) (ends .next) (ends .count)
-
-  -- a constant, a wire or an input
-  leaf-finished : {e : Expression} → Alone p (at + 1 + bodyOf kind) cell e
-      → valueOfWord (knownBy bits kind (bodyAt sheet at)) (typeOfByte asked) (leafWord sheet row words at) ≡ value (p .now) fresh e cell
-      → leafValued sheet row words bits asked at cell ≡ valuedOf p fresh
-  leaf-finished w same = finished p fresh w (same ∙ sym (ap (λ e. value (p .now) fresh e cell) (w .tree))) refl refl
-
-  pub leaf-answer : kind < 4 → leafValued sheet row words bits asked at cell ≡ valuedOf p fresh
-  unfolding value
-  leaf-answer below = by (ltb kind 2) refl (eqb kind 2) refl
+  pub leaf-yields : kind < 4 → {r : Valued} → r ≡ leafValued sheet words bits at cell → Yields p fresh r
+  leaf-yields below is = rw is (by (knownBy bits kind (bodyAt sheet at)) refl)
     where
-      by : (b : Bool) → ltb kind 2 ≡ b → (c : Bool) → eqb kind 2 ≡ c → leafValued sheet row words bits asked at cell ≡ valuedOf p fresh
-      by true e c f =
-          let low : kind < 2 = ltb-true kind 2 e in
-          leaf-finished (constant-view p low) (rw (ne-eqb kind 2 (λ is. omega arith), ne-eqb kind 3 (λ is. omega arith)))
-      by false e true f =
-          let w = wire-view p (eqb-true kind 2 f) in
-          leaf-finished (w .leaf) (rw f (sym (p .stands .onWires (bodyAt sheet at) (w .within) ∙ rw (w .typed))))
-      by false e false f =
-          let high : 2 ≤ kind = ltb-false kind 2 e in
-          let other = eqb-false kind 2 f in
-          let of : kind ≡ 3 = omega arith in
-          let w = input-view p of in
-          leaf-finished (w .leaf) (rw (f, eq-eqb kind 3 of) (ap Known (sym (p .stands .onInputs (bodyAt sheet at) (w .within) ∙ rw (w .typed)))))
+      by : (b : Bool) → knownBy bits kind (bodyAt sheet at) ≡ b → Yields p fresh (leafValued sheet words bits at cell)
+      by true e = known e (leaf-gives p fresh below e)
+      by false e = unknown e (leaf-value p fresh below ∙ rw e)
+
+  -- an operation on one or two operands
+  module _ {a : Valued} (ha : Answers p (at + 1) cell fresh a) where
+    pub operation-unknown : 4 ≤ kind → kind < 12 → a .known ≡ false → wholeValue p fresh ≡ Unknown
+    operation-unknown low high ends = by (ltb kind 6) refl
+      where
+        by : (b : Bool) → ltb kind 6 ≡ b → wholeValue p fresh ≡ Unknown
+        by true t =
+            let w = unary-view p _ (own-types p) low (ltb-true _ _ t) in
+            unary-value p fresh w ∙ rw (as-unknown (ha _ (placed p (w .first))) ends)
+        by false t =
+            let w = binary-view p _ (own-types p) (ltb-false _ _ t) high in
+            binary-value p fresh w ∙ rw (as-unknown (ha _ (placed p (w .first))) ends)
+
+    pub unary-answer : 4 ≤ kind → kind < 6 → a .known ≡ true → {v : ℕ} → v ≡ unaryWord (unaryOf kind) (a .word)
+        → Yields p fresh (record { next = a .next; word = v; cell = a .cell; known = true })
+    unary-answer low high there is =
+        let w = unary-view p _ (own-types p) low high in
+        known refl (unary-gives p fresh _ (own-types p) low high (as-known (ha _ (placed p (w .first))) there) is)
+
+    pub binary-answer : 6 ≤ kind → kind < 12 → a .known ≡ true → {b : Valued} → Answers p (a .next) (a .cell) fresh b → {v : ℕ}
+        → v ≡ binaryWord (binaryOf kind) (a .word) (b .word)
+        → Yields p fresh (record { next = b .next; word = v; cell = b .cell; known = b .known })
+    binary-answer low high there {b} hb {v} is =
+        let g = as-known (ha _ (placed p (binary-view p _ (own-types p) low high .first))) there in
+        by g (value-behind p (by-value p g) hb (binary-view p _ (own-types p) low high .second))
+      where
+        by : Gives (placed p (binary-view p _ (own-types p) low high .first)) fresh (a .word) (a .next) (a .cell)
+            → Yields (placed p (binary-view p _ (own-types p) low high .second)) fresh b
+            → Yields p fresh (record { next = b .next; word = v; cell = b .cell; known = b .known })
+        by g (unknown ends u) = unknown ends (binary-value p fresh (binary-view p _ (own-types p) low high) ∙ rw (g .value, u))
+        by g (known h f) = known h (binary-gives p fresh _ (own-types p) low high g f is)
+
+  module _ (of : kind ≡ 12) {c : Valued} (hc : Answers p (at + 1) cell fresh c) where
+    pub conditional-unknown : c .known ≡ false → wholeValue p fresh ≡ Unknown
+    conditional-unknown ends =
+        let w = conditional-view p of in
+        choose-value p fresh w ∙ rw (as-unknown (hc _ (placed p (w .first))) ends)
+
+    module _ (holds : c .known ≡ true) {a : Valued} (ha : Answers p (c .next) (c .cell) fresh a) where
+      conditional-first : Gives (placed p (conditional-view p of .first)) fresh (c .word) (c .next) (c .cell)
+      conditional-first = as-known (hc _ (placed p (conditional-view p of .first))) holds
+
+      conditional-second : Yields (placed p (conditional-view p of .second)) fresh a
+      conditional-second = value-behind p (by-value p conditional-first) ha (conditional-view p of .second)
+
+      pub conditional-unknown-arm : a .known ≡ false → wholeValue p fresh ≡ Unknown
+      conditional-unknown-arm ends =
+          let w = conditional-view p of in
+          choose-value p fresh w ∙ rw (conditional-first .value, as-unknown conditional-second ends)
+
+      pub conditional-answer : a .known ≡ true → {b : Valued} → Answers p (a .next) (a .cell) fresh b → {v : ℕ}
+          → v ≡ cond (eqb (c .word) 1) (a .word) (b .word)
+          → Yields p fresh (record { next = b .next; word = v; cell = b .cell; known = b .known })
+      conditional-answer there {b} hb {v} is =
+          let g = as-known conditional-second there in
+          by g (value-behind p (by-value p g) hb (conditional-view p of .third))
+        where
+          by : Gives (placed p (conditional-view p of .second)) fresh (a .word) (a .next) (a .cell)
+              → Yields (placed p (conditional-view p of .third)) fresh b
+              → Yields p fresh (record { next = b .next; word = v; cell = b .cell; known = b .known })
+          by g (unknown ends u) =
+              unknown ends (choose-value p fresh (conditional-view p of) ∙ rw (conditional-first .value, g .value, u))
+          by g (known h f) = known h (conditional-gives p fresh of conditional-first g f is)
+
+  module _ (of : kind ≡ 13) {c : Valued} (hc : Answers p (at + 1) cell fresh c) where
+    pub present-unknown : c .known ≡ false → wholeValue p fresh ≡ Unknown
+    present-unknown ends =
+        let w = present-view p of in
+        choose-value p fresh w ∙ rw (as-unknown (hc _ (placed p (w .first))) ends)
+
+    module _ (there : c .known ≡ true) where
+      present-condition : Gives (placed p (present-view p of .first)) fresh (c .word) (c .next) (c .cell)
+      present-condition = as-known (hc _ (placed p (present-view p of .first))) there
+
+      module _ (holds : c .word ≡ 1) {a : Valued} (ha : Answers p (c .next) (c .cell) fresh a) where
+        present-arm : Yields (placed p (present-view p of .second)) fresh a
+        present-arm = value-behind p (by-value p present-condition) ha (present-view p of .second)
+
+        pub present-unknown-arm : a .known ≡ false → wholeValue p fresh ≡ Unknown
+        present-unknown-arm ends =
+            choose-value p fresh (present-view p of) ∙ rw (present-condition .value, holds) (as-unknown present-arm ends)
+
+        pub present-answer-first : a .known ≡ true → {b : Skipped} → Walked p (a .next) (a .cell) b
+            → Yields p fresh (record { next = b .next; word = a .word; cell = b .cell; known = true })
+        present-answer-first here hb =
+            let g = as-known present-arm here in
+            let w = present-view p of in
+            known refl (present-gives-first p fresh of present-condition holds g
+            (by-walk p (w .third) (walk-behind p (by-value p g) hb (w .third))))
+
+      pub present-answer-second : (c .word ≡ 1 → ⊥) → {a : Skipped} {b : Valued} → Walked p (c .next) (c .cell) a
+          → Answers p (a .next) (a .cell) fresh b → Yields p fresh b
+      present-answer-second fails {b = b} ha hb =
+          let w = present-view p of in
+          let e = walk-behind p (by-value p present-condition) ha (w .second) in
+          by (value-behind p (by-walk p (w .second) e) hb (w .third))
+        where
+          by : Yields (placed p (present-view p of .third)) fresh b → Yields p fresh b
+          by (unknown ends u) =
+              unknown ends (choose-value p fresh (present-view p of) ∙ rw (present-condition .value, ne-eqb (c .word) 1 fails) u)
+          by (known h f) = known h (present-gives-second p fresh of present-condition fails f)
+
+  module _ (of : kind ≡ 14) {c : Valued} (hc : Answers p (at + 1) cell fresh c) where
+    pub reset-unknown : c .known ≡ false → wholeValue p fresh ≡ Unknown
+    reset-unknown ends =
+        let w = reset-view p of in
+        reset-value p fresh w ∙ rw (as-unknown (hc _ (placed p (w .first))) ends)
+
+    pub reset-answer : c .known ≡ true → {a : Valued} → Answers p (c .next) (c .cell) (eqb (c .word) 1 || fresh) a → Yields p fresh a
+    reset-answer there {a} ha =
+        let g = as-known (hc _ (placed p (reset-view p of .first))) there in
+        by g (value-behind p (by-value p g) ha (reset-view p of .second))
+      where
+        by : Gives (placed p (reset-view p of .first)) fresh (c .word) (c .next) (c .cell)
+            → Yields (placed p (reset-view p of .second)) (eqb (c .word) 1 || fresh) a → Yields p fresh a
+        by g (unknown ends u) = unknown ends (reset-value p fresh (reset-view p of) ∙ rw (g .value) u)
+        by g (known h f) = known h (reset-gives p fresh of g f)
+
+  module _ (of : kind ≡ 17) where
+    pub fby-answer-cell : isSeen fresh memory cell ≡ true → {word : ℕ} → word ≡ cellWordAt memory cell
+        → {a b : Skipped} → Walked p (at + 1) (cell + 1) a → Walked p (a .next) (a .cell) b
+        → Yields p fresh (record { next = b .next; word = word; cell = b .cell; known = true })
+    fby-answer-cell seen is ha hb =
+        let w = fby-view p of in
+        let e = by-walk p (w .first) (ha (readable p (w .first))) in
+        known refl (rw is (fby-gives-cell p fresh of seen (by-walk p (w .second) (walk-behind p e hb (w .second)))))
+
+    module _ (unseen : isSeen fresh memory cell ≡ false) {a : Valued} (ha : Answers p (at + 1) (cell + 1) fresh a) where
+      pub fby-unknown : a .known ≡ false → wholeValue p fresh ≡ Unknown
+      fby-unknown ends = fby-left p fresh of unseen ∙ as-unknown (ha _ (placed p (fby-view p of .first))) ends
+
+      pub fby-answer-left : a .known ≡ true → {b : Skipped} → Walked p (a .next) (a .cell) b
+          → Yields p fresh (record { next = b .next; word = a .word; cell = b .cell; known = true })
+      fby-answer-left there hb =
+          let w = fby-view p of in
+          let g = as-known (ha _ (placed p (w .first))) there in
+          known refl (fby-gives-left p fresh of unseen g (by-walk p (w .second) (walk-behind p (by-value p g) hb (w .second))))
+
+  -- the word of a pre, whose operand was passed over behind a body of the size that the code has
+  pub pre-answer : (low : 15 ≤ kind) (high : kind < 17) {size : ℕ} → size ≡ bodyOf kind
+      → {word : ℕ} → word ≡ preWord sheet memory at cell fresh → {a : Skipped} → Walked p (at + 1 + size) (cell + 1) a
+      → Yields p fresh (record { next = a .next; word = word; cell = a .cell; known = true })
+  pre-answer low high sized is {a} h =
+      let w = pre-view p low high in
+      let e = subst (λ (n : ℕ). Walked p (at + 1 + n) (cell + 1) a) sized h (readable p (w .first)) in
+      known refl (pre-gives p fresh low high is (by-walk p (w .first) e))

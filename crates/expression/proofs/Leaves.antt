@@ -1,5 +1,5 @@
--- What the bytes of a leaf show: its body, and the word and the value that it stands for.
-use Prim.Native.Nat.{ℕ, _+_, _*_, _≤_, _<_}
+-- What the bytes of a leaf show: its body, and the word that it stands for.
+use Prim.Native.Nat.{ℕ, _+_, _≤_, _<_}
 use mathlib.Core.Path.{_≡_, refl, sym, ap, _∙_}
 use mathlib.Core.Bool.{Bool, true, false}
 use mathlib.Core.List.{List}
@@ -10,11 +10,11 @@ use borrow.Author.Tests.{eq-eqb, ne-eqb, eqb-true}
 use Rattle.numbers.specs.Words.{wordAt}
 use Rattle.sheet.specs.Kinds.{bodyOf}
 use Rattle.sheet.specs.Readings.{bodyAt}
-use Rattle.sheet.specs.Rows.{entryAt}
+use Rattle.expression.specs.Places.{firstInput}
 use Rattle.expression.specs.Leaves.{Leaf, knownBy, leafWord}
 use Rattle.expression.proofs.Rows.{leaf-body, leaf-sized}
 
-module _ {s row : List ℕ} {at : ℕ} (l : Leaf s row at) where
+module _ {s : List ℕ} {at : ℕ} (l : Leaf s at) where
   abbrev kind : ℕ
   kind = getD s at 0
 
@@ -30,21 +30,21 @@ module _ {s row : List ℕ} {at : ℕ} (l : Leaf s row at) where
   pub wire-byte : kind ≡ 2 → getD s (at + 1) 0 < 64
   wire-byte is = rw is at (l .wire is)
 
-  pub entry-byte : kind ≡ 3 → 4 * getD s (at + 1) 0 + 4 ≤ length row
+  pub entry-byte : kind ≡ 3 → getD s (at + 1) 0 < 16
   entry-byte is = rw is at (l .entry is)
 
   -- the word, by the kind
   module _ (words : List ℕ) where
-    pub word-of-number : kind ≡ 1 → wordAt s (at + 1) ≡ leafWord s row words at
+    pub word-of-number : kind ≡ 1 → wordAt s (at + 1) ≡ leafWord s words at
     word-of-number is = rw is
 
-    pub word-of-wire : kind ≡ 2 → getD words (getD s (at + 1) 0) 0 ≡ leafWord s row words at
+    pub word-of-wire : kind ≡ 2 → getD words (getD s (at + 1) 0) 0 ≡ leafWord s words at
     word-of-wire is = rw is
 
-    pub word-of-input : kind ≡ 3 → entryAt row (getD s (at + 1) 0) ≡ leafWord s row words at
+    pub word-of-input : kind ≡ 3 → getD words (firstInput + getD s (at + 1) 0) 0 ≡ leafWord s words at
     word-of-input is = rw is
 
-    pub word-of-boolean : (kind ≡ 1 → ⊥) → (kind ≡ 2 → ⊥) → (kind ≡ 3 → ⊥) → getD s (at + 1) 0 ≡ leafWord s row words at
+    pub word-of-boolean : (kind ≡ 1 → ⊥) → (kind ≡ 2 → ⊥) → (kind ≡ 3 → ⊥) → getD s (at + 1) 0 ≡ leafWord s words at
     word-of-boolean one two three = sym (rw (ne-eqb kind 2 two, ne-eqb kind 3 three) (byte-body one))
 
   -- only where it names a wire does its byte count

@@ -4,10 +4,11 @@ use mathlib.Core.Path.{_≡_, refl, sym, ap}
 use mathlib.Core.List.{List, [], _∷_}
 use native.Mathlib.Omega.{arith}
 use lib.ListN.{length, getD, take}
-use Rattle.sheet.specs.Data.{ValueType, boolean, number, typeOf, datumOf}
+use Rattle.sheet.specs.Data.{ValueType, boolean, number, typeOfByte, typeOf, datumOf}
 use Rattle.sheet.specs.Expressions.{constant, unary, binary, pre}
 use Rattle.sheet.specs.Expressions.{CellForm, preCell, fbyCell}
 use Rattle.sheet.specs.Kinds.{Meaning, operand, bodyOf, cellsOf, countOf, operandsOf, foundOf, meaningOf, kindCount}
+use Rattle.sheet.specs.Typing.{unaryType, operandType, resultType}
 use Rattle.sheet.specs.Laws.Readings.{ownForms, kinds-between, _▸_, end}
 use Rattle.kernel.specs.Operations.{unaryOf, binaryOf}
 
@@ -28,6 +29,47 @@ BinaryRow k = rowOf k ≡ (0, 0, 2, λ t b es. binary (binaryOf k) (operand es 0
 pub binary-row : (k : ℕ) → 6 ≤ k → k < 12 → BinaryRow k
 unfolding meaningOf
 binary-row = kinds-between BinaryRow (refl ▸ refl ▸ refl ▸ refl ▸ refl ▸ refl ▸ end)
+
+-- an operation has the type that is asked of it
+abbrev pub UnaryTyped : ℕ → Type 0
+UnaryTyped k = (inputs wires : List ℕ) (t n : ℕ) → foundOf inputs wires t k n ≡ t → typeOfByte t ≡ unaryType (unaryOf k)
+
+pub unary-typed : (k : ℕ) → 4 ≤ k → k < 6 → UnaryTyped k
+unary-typed = kinds-between UnaryTyped (typed ▸ typed ▸ end)
+  where
+    typed : {u : ℕ} (inputs wires : List ℕ) (t n : ℕ) → u ≡ t → typeOfByte t ≡ typeOfByte u
+    typed inputs wires t n e = ap typeOfByte (sym e)
+
+-- and so has its operand
+abbrev pub UnaryOperand : ℕ → Type 0
+UnaryOperand k = (t x : ℕ) → operandsOf k t ≡ x ∷ [] → typeOfByte x ≡ unaryType (unaryOf k)
+
+pub unary-operand : (k : ℕ) → 4 ≤ k → k < 6 → UnaryOperand k
+unfolding operandsOf
+unary-operand = kinds-between UnaryOperand (first ▸ first ▸ end)
+  where
+    first : {u : ℕ} (t x : ℕ) → u ∷ [] ≡ x ∷ [] → typeOfByte x ≡ typeOfByte u
+    first t x e = ap (λ xs. typeOfByte (getD xs 0 0)) (sym e)
+
+abbrev pub BinaryTyped : ℕ → Type 0
+BinaryTyped k = (inputs wires : List ℕ) (t n : ℕ) → foundOf inputs wires t k n ≡ t → typeOfByte t ≡ resultType (binaryOf k)
+
+pub binary-typed : (k : ℕ) → 6 ≤ k → k < 12 → BinaryTyped k
+binary-typed = kinds-between BinaryTyped (typed ▸ typed ▸ typed ▸ typed ▸ typed ▸ typed ▸ end)
+  where
+    typed : {u : ℕ} (inputs wires : List ℕ) (t n : ℕ) → u ≡ t → typeOfByte t ≡ typeOfByte u
+    typed inputs wires t n e = ap typeOfByte (sym e)
+
+abbrev pub BinaryOperands : ℕ → Type 0
+BinaryOperands k = (t x y : ℕ) → operandsOf k t ≡ x ∷ y ∷ []
+    → (typeOfByte x ≡ operandType (binaryOf k)) × (typeOfByte y ≡ operandType (binaryOf k))
+
+pub binary-operands : (k : ℕ) → 6 ≤ k → k < 12 → BinaryOperands k
+unfolding operandsOf
+binary-operands = kinds-between BinaryOperands (both ▸ both ▸ both ▸ both ▸ both ▸ both ▸ end)
+  where
+    both : {u v : ℕ} (t x y : ℕ) → u ∷ v ∷ [] ≡ x ∷ y ∷ [] → (typeOfByte x ≡ typeOfByte u) × (typeOfByte y ≡ typeOfByte v)
+    both t x y e = (ap (λ xs. typeOfByte (getD xs 0 0)) (sym e), ap (λ xs. typeOfByte (getD xs 1 0)) (sym e))
 
 -- a pre has the type of its operand
 pub record PreRow (k : ℕ) : Type 0 where

@@ -7,6 +7,7 @@ use mathlib.Core.List.{List, [], _∷_, _++_}
 use native.Mathlib.Numerals.{sub-one}
 use native.Mathlib.Omega.{arith}
 use lib.ListN.{length, getD, take}
+use lib.Seq.{take-all}
 use lib.Dec.{ltb}
 use borrow.Author.Tests.{ltb-true, ltb-false}
 use Rattle.sheet.specs.Data.{typeOfByte, datumOf}
@@ -46,8 +47,8 @@ level-view : (inputs wires s : List ℕ) (level t at c : ℕ) {e : Expression} {
 level-view inputs wires s zero t at c r = absurd (no-level inputs wires s t at c r)
 level-view inputs wires s (suc l) t at c r = (omega arith, rw sub-one (expression-view inputs wires s l t at c r))
 
-module _ {sheet row memory words : List ℕ} {bits level asked at cell : ℕ}
-    (p : Placement sheet row memory words bits level asked at cell) where
+module _ {sheet memory words : List ℕ} {bits level asked at cell : ℕ}
+    (p : Placement sheet memory words bits level asked at cell) where
   abbrev kind : ℕ
   kind = getD sheet at 0
 
@@ -64,7 +65,7 @@ module _ {sheet row memory words : List ℕ} {bits level asked at cell : ℕ}
     pub cells : CellsStand memory (p .now .memory) k (cellForms tree)
 
   -- as a placement of its own, in the same environment
-  abbrev pub placed : {t a k : ℕ} → Operand t a k → Placement sheet row memory words bits (level - 1) t a k
+  abbrev pub placed : {t a k : ℕ} → Operand t a k → Placement sheet memory words bits (level - 1) t a k
   placed o = record {
     inputs = p .inputs;
     wires = p .wires;
@@ -242,28 +243,39 @@ module _ {sheet row memory words : List ℕ} {bits level asked at cell : ℕ}
         ends = retold (w .ends) (means (w .first .tree) (w .second .tree) (w .third .tree));
       }
 
-  -- By the kind: where the operands stand, and the tree. The types of an operation's operands are those that the code has.
-  pub unary-view : (types : List ℕ) → take (countOf kind) types ≡ operandsOf kind asked → 4 ≤ kind → kind < 6
-      → One (getD types 0 0) (at + 1) cell (unary (unaryOf kind))
-  unary-view types e low high =
-      let r = unary-row kind low high in
-      let count : countOf kind ≡ 1 = ap (λ x. x .2) r in
-      one (record {
-        types = one-type types _ (rw count at e) (operands-counted asked kind (omega arith) ∙ count);
-        place = omega (arith, ap (λ x. x .0) r);
-        cells = omega (arith, ap (λ x. x .1) r);
-      }) (λ x. ap (λ r. r .3 (typeOfByte asked) (bodyAt sheet at) (x ∷ [])) r)
+  -- By the kind: where the operands stand, and the tree. The types of an operation's operands are those of the table, or those that
+  -- the code has.
+  pub own-types : take (countOf kind) (operandsOf kind asked) ≡ operandsOf kind asked
+  own-types = take-all (countOf kind) (operandsOf kind asked) (omega (arith, operands-counted asked kind (opened .good .kind)))
 
-  pub binary-view : (types : List ℕ) → take (countOf kind) types ≡ operandsOf kind asked → 6 ≤ kind → kind < 12
-      → Two (getD types 0 0) (getD types 1 0) (at + 1) cell (binary (binaryOf kind))
-  binary-view types e low high =
-      let r = binary-row kind low high in
-      let count : countOf kind ≡ 2 = ap (λ x. x .2) r in
-      two (record {
-        types = two-types types _ (rw count at e) (operands-counted asked kind (omega arith) ∙ count);
-        place = omega (arith, ap (λ x. x .0) r);
-        cells = omega (arith, ap (λ x. x .1) r);
-      }) (λ x y. ap (λ r. r .3 (typeOfByte asked) (bodyAt sheet at) (x ∷ y ∷ [])) r)
+  module _ (types : List ℕ) (e : take (countOf kind) types ≡ operandsOf kind asked) where
+    pub unary-types : 4 ≤ kind → kind < 6 → operandsOf kind asked ≡ getD types 0 0 ∷ []
+    unary-types low high =
+        let count : countOf kind ≡ 1 = ap (λ x. x .2) (unary-row kind low high) in
+        one-type types _ (rw count at e) (operands-counted asked kind (omega arith) ∙ count)
+
+    pub unary-view : 4 ≤ kind → kind < 6 → One (getD types 0 0) (at + 1) cell (unary (unaryOf kind))
+    unary-view low high =
+        let r = unary-row kind low high in
+        one (record {
+          types = unary-types low high;
+          place = omega (arith, ap (λ x. x .0) r);
+          cells = omega (arith, ap (λ x. x .1) r);
+        }) (λ x. ap (λ r. r .3 (typeOfByte asked) (bodyAt sheet at) (x ∷ [])) r)
+
+    pub binary-types : 6 ≤ kind → kind < 12 → operandsOf kind asked ≡ getD types 0 0 ∷ getD types 1 0 ∷ []
+    binary-types low high =
+        let count : countOf kind ≡ 2 = ap (λ x. x .2) (binary-row kind low high) in
+        two-types types _ (rw count at e) (operands-counted asked kind (omega arith) ∙ count)
+
+    pub binary-view : 6 ≤ kind → kind < 12 → Two (getD types 0 0) (getD types 1 0) (at + 1) cell (binary (binaryOf kind))
+    binary-view low high =
+        let r = binary-row kind low high in
+        two (record {
+          types = binary-types low high;
+          place = omega (arith, ap (λ x. x .0) r);
+          cells = omega (arith, ap (λ x. x .1) r);
+        }) (λ x y. ap (λ r. r .3 (typeOfByte asked) (bodyAt sheet at) (x ∷ y ∷ [])) r)
 
   -- in either case the first operand
   pub operation-first : (types : List ℕ) → take (countOf kind) types ≡ operandsOf kind asked → 4 ≤ kind → kind < 12
@@ -331,12 +343,12 @@ module _ {sheet row memory words : List ℕ} {bits level asked at cell : ℕ}
   }
 
   -- for the value of a constant, a wire or an input
-  pub leaf-of : kind < 4 → Leaf sheet row at
+  pub leaf-of : kind < 4 → Leaf sheet at
   leaf-of below = record {
     whole = whole;
     kind = below;
     wire = λ of. omega (arith, wire-view of .within, p .stands .wireLimit);
-    entry = λ of. omega (arith, input-view of .within, p .stands .inputSize);
+    entry = λ of. omega (arith, input-view of .within, p .stands .inputLimit);
   }
 
   -- the cell that a pre or an fby owns

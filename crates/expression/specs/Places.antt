@@ -1,15 +1,16 @@
--- What the buffers of an instant stand for, and where an expression stands in them: what the functions of this crate ask for, and
--- what they answer.
+-- What the words and the bytes of an instant stand for, where an expression stands in them, and what the functions of this crate
+-- answer of it.
 use Prim.Native.Nat.{ℕ, suc, _+_, _*_, _≤_, _<_}
 use mathlib.Core.Path.{_≡_}
-use mathlib.Core.Bool.{Bool, true, false}
+use mathlib.Core.Bool.{Bool, true, false, not, cond}
 use mathlib.Core.List.{List, [], _∷_}
+use lib.Dec.{eqb}
 use lib.ListN.{length, getD, take, drop}
 use Rattle.wires.specs.Sets.{member}
 use Rattle.sheet.specs.Data.{ValueType, typeOfByte, datumOf}
 use Rattle.sheet.specs.Expressions.{Expression, CellForm, cellForms}
-use Rattle.sheet.specs.Readings.{got, readExpression}
-use Rattle.sheet.specs.Memory.{cellBytes, readCell, memoryBytes}
+use Rattle.sheet.specs.Readings.{got, readExpression, bodyAt}
+use Rattle.sheet.specs.Memory.{cellBytes, markAt, cellWordAt, readCell, memoryBytes}
 use Rattle.sheet.specs.Rows.{entryAt}
 use Rattle.sheet.specs.declared.Cell.{Cell}
 use Rattle.kernel.specs.Order.{valueAt}
@@ -23,12 +24,23 @@ abbrev pub valueOfWord : Bool → ValueType → ℕ → Value
 valueOfWord false t word = Unknown
 valueOfWord true t word = Known (datumOf t word)
 
--- an input row, a set of known wires and the wires' words stand for an environment's inputs and wires; types are type bytes
-pub record Stands (inputs wires input words : List ℕ) (bits : ℕ) (now : Environment) : Type 0 where
-  pub inputSize : length input ≡ 4 * length inputs
-  pub onInputs : (i : ℕ) → i < length inputs → inputAt (now .inputs) i ≡ datumOf (typeOfByte (getD inputs i 0)) (entryAt input i)
+-- the words of an instant: those of the wires, by their numbers, and from here on those of the inputs
+abbrev pub firstInput : ℕ
+firstInput = 64
+
+abbrev pub inputWords : List ℕ → List ℕ
+inputWords words = drop firstInput words
+
+-- each entry of an input row is among them
+unfoldable pub InputsPut : (input words : List ℕ) → Type 0
+InputsPut input words = (i : ℕ) → 4 * i + 4 ≤ length input → getD words (firstInput + i) 0 ≡ entryAt input i
+
+-- a set of known wires and the words stand for an environment's inputs and wires; types are type bytes
+pub record Stands (inputs wires words : List ℕ) (bits : ℕ) (now : Environment) : Type 0 where
+  pub inputLimit : length inputs ≤ 16
+  pub onInputs : (i : ℕ) → i < length inputs
+      → inputAt (now .inputs) i ≡ datumOf (typeOfByte (getD inputs i 0)) (getD words (firstInput + i) 0)
   pub wireLimit : length wires ≤ 64
-  pub wordSize : length wires ≤ length words
   pub onWires : (w : ℕ) → w < length wires
       → valueAt (now .wires) w ≡ valueOfWord (member bits w) (typeOfByte (getD wires w 0)) (getD words w 0)
 
@@ -45,7 +57,7 @@ pub data CellsStand (memory : List ℕ) (cells : List Cell) : ℕ → List CellF
       → CellsStand memory cells (suc k) forms → CellsStand memory cells k (form ∷ forms)
 
 -- where an expression stands: it reads as a tree, and its cells stand in the memory from number `cell` on
-pub record Placement (sheet input memory words : List ℕ) (bits level asked at cell : ℕ) : Type 0 where
+pub record Placement (sheet memory words : List ℕ) (bits level asked at cell : ℕ) : Type 0 where
   pub inputs : List ℕ
   pub wires : List ℕ
   pub now : Environment
@@ -53,13 +65,41 @@ pub record Placement (sheet input memory words : List ℕ) (bits level asked at 
   pub next : ℕ
   pub count : ℕ
   pub reads : readExpression inputs wires sheet level asked at cell ≡ got tree next count
-  pub stands : Stands inputs wires input words bits now
+  pub stands : Stands inputs wires words bits now
   pub cells : CellsStand memory (now .memory) cell (cellForms tree)
 
-module _ {sheet input memory words : List ℕ} {bits level asked at cell : ℕ} (p : Placement sheet input memory words bits level asked at cell)
+-- whatever type is asked of it
+abbrev pub Placed : (sheet memory words : List ℕ) (bits level at cell : ℕ) → Type 0
+Placed sheet memory words bits level at cell = (asked : ℕ) × Placement sheet memory words bits level asked at cell
+
+-- the place sees its cell as started: the cell is so, and the place is not fresh
+abbrev pub isSeen : Bool → List ℕ → ℕ → Bool
+isSeen fresh memory k = cond fresh false (not (eqb (markAt memory k) 0))
+
+-- the word that a pre yields: that of its cell where it sees it started, and else that of its constant
+abbrev pub preWord : (sheet memory : List ℕ) (at cell : ℕ) → Bool → ℕ
+preWord sheet memory at cell fresh = cond (isSeen fresh memory cell) (cellWordAt memory cell) (bodyAt sheet at)
+
+module _ {sheet memory words : List ℕ} {bits level asked at cell : ℕ} (p : Placement sheet memory words bits level asked at cell)
     (fresh : Bool) where
-  abbrev pub valuedOf : Valued
-  valuedOf = record { value = value (p .now) fresh (p .tree) cell; next = p .next; cell = p .count }
+  abbrev pub wholeValue : Value
+  wholeValue = value (p .now) fresh (p .tree) cell
 
   abbrev pub storedBytes : List ℕ
   storedBytes = memoryBytes (stored (p .now) fresh (p .tree) cell)
+
+  -- its value is known and has this word, it ends at this place, and this is the number of the first cell past its own
+  pub record Gives (word end following : ℕ) : Type 0 where
+    pub value : wholeValue ≡ Known (datumOf (typeOfByte asked) word)
+    pub next : end ≡ p .next
+    pub count : following ≡ p .count
+
+  -- what a valuer hands back of it: where the value is unknown, nothing else counts
+  pub data Yields (r : Valued) : Type 0 where
+    unknown : r .known ≡ false → wholeValue ≡ Unknown → Yields r
+    known : r .known ≡ true → Gives (r .word) (r .next) (r .cell) → Yields r
+
+-- it is handed back for every placement there
+abbrev pub YieldsAt : (sheet memory words : List ℕ) (bits level at cell : ℕ) → Bool → Valued → Type 0
+YieldsAt sheet memory words bits level at cell fresh r =
+    (asked : ℕ) (p : Placement sheet memory words bits level asked at cell) → Yields p fresh r

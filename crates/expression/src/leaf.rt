@@ -10,6 +10,9 @@ ghost use Rattle.sheet.specs.Kinds.{bodyOf};
 ghost use Rattle.expression.specs.Places.{valueOfWord};
 ghost use Rattle.expression.specs.Leaves.{Leaf, knownBy, leafWord, leafValued};
 
+// Where the inputs' words begin, behind those of all wires that there can be.
+pub const FIRST_INPUT: usize = 64;
+
 // Whether the value of a leaf of the kind is known: that of a wire where the set has the one that is named, and any other.
 fn is_known(known: Wires, kind: u8, named: u8) -> bool
     requires { ⌜ (kind ≡ 2 → named < 64) ⌝ }
@@ -23,9 +26,9 @@ fn is_known(known: Wires, kind: u8, named: u8) -> bool
 }
 
 // The word that stands for the value: the constant, or the word of the wire or the input that is named.
-fn word_of(sheet: &[u8], input: &&[u8], words: &[u32; 64], at: usize) -> u32
-    requires { ⌜ Leaf (now sheet) (now (now input)) at ⌝ }
-    ensures { λ r. ⌜ r ≡ leafWord (now (sheet .entry)) (now (now (input .entry))) (now (words .entry)) at ⌝ }
+pub fn word_of(sheet: &[u8], words: &[u32; 80], at: usize) -> u32
+    requires { ⌜ Leaf (now sheet) at ⌝ }
+    ensures { λ r. ⌜ r ≡ leafWord (now (sheet .entry)) (now (words .entry)) at ⌝ }
 {
     let kind = sheet[at];
     if kind == 1 {
@@ -36,13 +39,13 @@ fn word_of(sheet: &[u8], input: &&[u8], words: &[u32; 64], at: usize) -> u32
         return words[named];
     }
     if kind == 3 {
-        return numbers::word_at(*input, 4 * named);
+        return words[FIRST_INPUT + named];
     }
     named as u32
 }
 
 // A value of the type, from whether it is known and its word.
-fn value_of_word(known: bool, asked: u8, word: u32) -> Value
+pub fn value_of_word(known: bool, asked: u8, word: u32) -> Value
     ensures { λ r. ⌜ r ≡ valueOfWord known (typeOfByte asked) word ⌝ }
 {
     if known {
@@ -53,32 +56,25 @@ fn value_of_word(known: bool, asked: u8, word: u32) -> Value
 }
 
 // How many bytes the body has.
-fn body(kind: u8) -> usize
+pub fn body(kind: u8) -> usize
     requires { ⌜ kind < 4 ⌝ }
     ensures { λ r. ⌜ r ≡ bodyOf kind ⌝ }
 {
     if kind == 1 { 4 } else { 1 }
 }
 
-// The value, of which the type byte `asked` is asked; it has no cells.
-pub fn value_leaf(
-    sheet: &[u8],
-    input: &&[u8],
-    known: Wires,
-    words: &[u32; 64],
-    asked: u8,
-    at: usize,
-    cell: usize,
-) -> Valued
-    requires { ⌜ Leaf (now sheet) (now (now input)) at ⌝ }
-    ensures { λ r. ⌜ r ≡ leafValued (now (sheet .entry)) (now (now (input .entry))) (now (words .entry)) (known .bits) asked at cell ⌝ }
+// The value; it has no cells.
+pub fn value_leaf(sheet: &[u8], known: Wires, words: &[u32; 80], at: usize, cell: usize) -> Valued
+    requires { ⌜ Leaf (now sheet) at ⌝ }
+    ensures { λ r. ⌜ r ≡ leafValued (now (sheet .entry)) (now (words .entry)) (known .bits) at cell ⌝ }
 {
     let kind = sheet[at];
     let known_here = is_known(known, kind, sheet[at + 1]);
-    let word = word_of(sheet, input, words, at);
+    let word = word_of(sheet, words, at);
     Valued {
         next: at + 1 + body(kind),
-        value: value_of_word(known_here, asked, word),
+        word,
         cell,
+        known: known_here,
     }
 }

@@ -12,7 +12,7 @@ use Rattle.sheet.specs.Data.{ValueType, boolean, number, typeOfByte, standsFor}
 use Rattle.sheet.specs.Expressions.{CellForm, fbyCell}
 use Rattle.sheet.specs.Memory.{startsEmpty, typeByte, formByte, validCell, invalidAt}
 use Rattle.sheet.specs.Rows.{wrongAt}
-use Rattle.sheet_check.specs.Map.{formIn}
+use Rattle.sheet_expressions.specs.Map.{formIn}
 use Rattle.given.specs.Answers.{Formed}
 use Rattle.sheet.specs.declared.Cell.{Cell}
 use Rattle.sheet.specs.declared.Cell.the-variants.{NotStarted, Started}

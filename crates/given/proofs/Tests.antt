@@ -23,7 +23,7 @@ use Rattle.sheet.specs.declared.Cell.{Cell}
 use Rattle.sheet.specs.declared.Refusal.{Refusal}
 use Rattle.sheet.specs.declared.Refusal.the-variants.{TypeByte, OutputLength}
 use Rattle.sheet.specs.declared.Checked.the-variants.{Refused as CheckRefused, Passed as CheckPassed}
-use Rattle.sheet_check.specs.Map.{CellNoted, formIn}
+use Rattle.sheet_expressions.specs.Map.{CellNoted, formIn}
 use Rattle.kernel.specs.Calls.{givenOf}
 use Rattle.given.specs.Answers.{givenAnswer, testedOf, andTested, buffersTested, Formed}
 use Rattle.given.specs.declared.Given.{Given as Answer}

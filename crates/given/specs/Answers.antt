@@ -12,7 +12,7 @@ use Rattle.sheet.specs.Sheets.{sheetForms}
 use Rattle.sheet.specs.Memory.{formByte, memoryOf}
 use Rattle.sheet.specs.Rows.{inputsOf}
 use Rattle.sheet.specs.declared.Refusal.the-variants.{OutputLength}
-use Rattle.sheet_check.specs.Map.{formIn}
+use Rattle.sheet_expressions.specs.Map.{formIn}
 use Rattle.kernel.specs.Calls.{Given}
 use Rattle.given.specs.declared.Given.{Given as Answer}
 use Rattle.given.specs.declared.Given.the-variants.{Refused, Passed}

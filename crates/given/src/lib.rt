@@ -14,7 +14,7 @@ ghost use Rattle.sheet.specs.Sheets.{Sheet};
 ghost use Rattle.sheet.specs.Memory.{formByte, validCell, invalidAt, memoryOf};
 ghost use Rattle.sheet.specs.Rows.{wrongAt, inputsOf};
 ghost use Rattle.sheet.specs.Laws.Headers.{SheetRead};
-ghost use Rattle.sheet_check.specs.Map.{Sited, wiresOf};
+ghost use Rattle.sheet_expressions.specs.Map.{Sited, wiresOf};
 ghost use Rattle.kernel.specs.Calls.{givenOf};
 ghost use Rattle.given.specs.Answers.{givenAnswer, testedOf, buffersTested, Formed};
 

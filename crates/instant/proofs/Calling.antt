@@ -15,7 +15,7 @@ use Rattle.sheet.specs.declared.Refusal.{Refusal}
 use Rattle.sheet.specs.declared.Refusal.the-variants.{StaysUnknown}
 use Rattle.sheet.specs.Sheets.{Sheet}
 use Rattle.sheet.specs.Laws.Headers.{SheetRead}
-use Rattle.sheet_check.specs.Map.{Sited, wiresOf}
+use Rattle.sheet_expressions.specs.Map.{Sited, wiresOf}
 use Rattle.kernel.specs.Values.{isUnknown, IsKnown, known}
 use Rattle.kernel.specs.Order.{valueAt}
 use Rattle.kernel.specs.Systems.{Full}
@@ -33,6 +33,7 @@ use Rattle.kernel.specs.declared.InRounds.the-variants.{Refused as RefusedInRou
 use Rattle.kernel.specs.declared.Scheduled.the-variants.{Refused as RefusedScheduled, Accepted as AcceptedScheduled}
 use Rattle.schedule.specs.Orders.{orderedAnswer}
 use Rattle.schedule.specs.declared.Ordered.the-variants.{Refused as RefusedOrder, Passed as PassedOrder}
+use Rattle.expression.specs.Places.{inputWords}
 use Rattle.rounds.specs.Running.{Held, unheld, held, Holds}
 use Rattle.rounds.specs.Outputs.{Below, wordsOf, output-words}
 use Rattle.rounds.proofs.Rounding.{out-unknown}
@@ -80,11 +81,11 @@ held-known e (held f) = known
 known-not : {v : Value} → IsKnown v → isUnknown v ≡ false
 known-not known = refl
 
-module _ {n bits : ℕ} {words : List ℕ} {values : List Value} (h : Holds n bits words values) (few : n ≤ 64) where
+module _ {n bits : ℕ} {row words : List ℕ} {values : List Value} (h : Holds n row bits words values) (few : n ≤ 64) where
   same-tally : tally (member bits) 64 ≡ tally (member bits) n
   same-tally = tally-beyond (member bits) n 64 few (h .beyond)
 
-  all-known : tally (member bits) 64 ≡ n → Full n values
+  pub all-known : tally (member bits) 64 ≡ n → Full n values
   unfolding Full
   all-known e w l = held-known (tally-full (member bits) n (sym same-tally ∙ e) w l) (h .each w l)
 
@@ -108,8 +109,8 @@ module _ {n bits : ℕ} {words : List ℕ} {values : List Value} (h : Holds n bi
       }
 
 -- The values of buffers that passed 1 to 16.
-module _ {s memory input output places firsts reads : List ℕ} {inputs wires outputs : ℕ}
-    (l : Laid s memory input output places firsts reads inputs wires outputs) where
+module _ {s memory input output places firsts reads start : List ℕ} {inputs wires outputs : ℕ}
+    (l : Laid s memory input output places firsts reads start inputs wires outputs) where
   abbrev pub given : Given
   given = l .running .given
 
@@ -118,16 +119,19 @@ module _ {s memory input output places firsts reads : List ℕ} {inputs wires ou
 
   -- the set and the words hold the finished values
   abbrev pub HoldsFinished : ℕ → List ℕ → Type 0
-  HoldsFinished bits words = Holds count bits words (givenFinished given)
+  HoldsFinished bits words = Holds count (inputWords start) bits words (givenFinished given)
 
-  abbrev pub settled : {bits : ℕ} {words : List ℕ} → HoldsFinished bits words
-      → Settled s memory input (typesAt s inputs wires outputs) places firsts bits words
-  settled h =
+  abbrev pub settled : {bits : ℕ} {words : List ℕ} → HoldsFinished bits words → Full count (givenFinished given)
+      → Settled s memory (typesAt s inputs wires outputs) places firsts words
+  settled {bits} h full =
       let r = l .running in
       record {
+        row = inputWords start;
         running = r;
+        bits = bits;
         values = givenFinished given;
         holds = h;
+        full = full;
         typed = finished-typed (given .sheet) (given .inputs) (given .memory) (r .wellTyped) (r .validInputs) (r .validMemory);
       }
 
@@ -157,7 +161,8 @@ module _ {s memory input output places firsts reads : List ℕ} {inputs wires ou
           let is : answer ≡ RefusedInRounds StaysUnknown place = rw left at (answers .is) in
           record { answers = rw (e, is); stores = rw e stays; writes = rw e still }
 
-      pub rounds-accepted : full ≡ true → tally (member bits) 64 ≡ count → rounds ≡ givenRounds given → new ≡ storedOf (settled h)
+      pub rounds-accepted : full ≡ true → (all : tally (member bits) 64 ≡ count) → rounds ≡ givenRounds given
+          → new ≡ storedOf (settled h (all-known h (l .running .few) all))
           → row ≡ wordsOf (outputsAt s inputs wires outputs) words → Leaves (roundsCall s memory input output) answer new row
       unfolding roundsCall
       rounds-accepted taken all made stores writes =
@@ -168,8 +173,8 @@ module _ {s memory input output places firsts reads : List ℕ} {inputs wires ou
           record { answers = rw (e, is, made); stores = rw e stores; writes = rw e (writes ∙ written h known) }
 
   -- Along a schedule.
-  abbrev pub along : {list words : List ℕ} → IsSchedule (given .sheet) list → count ≤ length words
-      → Along s memory input (typesAt s inputs wires outputs) places firsts list words
+  abbrev pub along : {list : List ℕ} → IsSchedule (given .sheet) list → count ≤ length start
+      → Along s memory (typesAt s inputs wires outputs) places firsts list start
   along h room = record { running = l .running; wires = λ p m. rw (l .wired) at (h .wires p m); once = h .once; room = room }
 
   pub order-refused : (list : List ℕ) {why : Refusal} {place : ℕ} → RefusedOrder why place ≡ orderedAnswer (scheduleOf (given .sheet) list)
@@ -191,11 +196,16 @@ module _ {s memory input output places firsts reads : List ℕ} {inputs wires ou
       go (refusal w p) q e = never (cc)
       go (result order) q e = passed-schedule (given .sheet) list (schedule-passed (given .sheet) list order q .1)
 
+  -- no wire is unknown after the pass
+  pub pass-full : {list : List ℕ} → IsSchedule (given .sheet) list → Full count (givenFinished given)
+  pass-full {list} schedule = rw (l .wired) at (scheduled-accepted given list schedule .1)
+
   module _ {list : List ℕ} (schedule : IsSchedule (given .sheet) list) {bits : ℕ} {words : List ℕ} where
-    pub pass-holds : Holds count bits words (pass (given .sheet) (given .inputs) (given .memory) list) → HoldsFinished bits words
+    pub pass-holds : Holds count (inputWords start) bits words (pass (given .sheet) (given .inputs) (given .memory) list)
+        → HoldsFinished bits words
     pass-holds h = rw (scheduled-accepted given list schedule .0) at h
 
-    pub scheduled-accepts : (h : HoldsFinished bits words) {new row : List ℕ} → new ≡ storedOf (settled h)
+    pub scheduled-accepts : (h : HoldsFinished bits words) {new row : List ℕ} → new ≡ storedOf (settled h (pass-full schedule))
         → row ≡ wordsOf (outputsAt s inputs wires outputs) words
         → Leaves (scheduledCall s memory input output list) AcceptedScheduled new row
     unfolding scheduledCall

@@ -6,13 +6,14 @@ use native.Mathlib.Omega.{arith}
 use lib.ListN.{length, getD, take, drop}
 use Rattle.sheet.specs.Outcomes.{result}
 use Rattle.sheet.specs.Laws.Typing.{passed-check}
-use Rattle.sheet_check.specs.Map.{HoldsJust}
+use Rattle.sheet_expressions.specs.Map.{HoldsJust}
 use Rattle.kernel.specs.Instants.{wireCount, readsAt}
 use Rattle.kernel.specs.Calls.{Given, givenOf}
 use Rattle.kernel.specs.Laws.Given.{given-by}
+use Rattle.expression.specs.Places.{inputWords, InputsPut}
 use Rattle.rounds.specs.Running.{Running, RunningReads}
 use Rattle.rounds.specs.Outputs.{Below}
-use Rattle.rounds.specs.Laws.Running.{parts}
+use Rattle.rounds.specs.Laws.Running.{input-length, parts}
 use Rattle.instant.specs.Leaves.{Granted}
 
 -- the wires' type bytes, the outputs' bytes, and where the expressions begin
@@ -26,8 +27,8 @@ module _ (s : List ℕ) (inputs wires outputs : ℕ) where
   abbrev pub firstAt : ℕ
   firstAt = 2 + inputs + wires + 1 + outputs
 
-pub record Laid (s memory input output places firsts reads : List ℕ) (inputs wires outputs : ℕ) : Type 0 where
-  pub running : Running s memory input (typesAt s inputs wires outputs) places firsts
+pub record Laid (s memory input output places firsts reads words : List ℕ) (inputs wires outputs : ℕ) : Type 0 where
+  pub running : Running s memory (inputWords words) (typesAt s inputs wires outputs) places firsts
   pub reading : (w : ℕ) → w < length (typesAt s inputs wires outputs)
       → HoldsJust (getD reads w 0) (readsAt (running .given .sheet .expressions) w)
   pub passes : givenOf s memory input output ≡ result (running .given)
@@ -38,28 +39,33 @@ pub record Laid (s memory input output places firsts reads : List ℕ) (inputs w
   pub within : firstAt s inputs wires outputs ≤ length s
 
 -- what runs, with its reads
-abbrev pub laidReads : {s memory input output places firsts reads : List ℕ} {inputs wires outputs : ℕ}
-    → Laid s memory input output places firsts reads inputs wires outputs
-    → RunningReads s memory input (typesAt s inputs wires outputs) places firsts reads
+abbrev pub laidReads : {s memory input output places firsts reads words : List ℕ} {inputs wires outputs : ℕ}
+    → Laid s memory input output places firsts reads words inputs wires outputs
+    → RunningReads s memory (inputWords words) (typesAt s inputs wires outputs) places firsts reads
 laidReads l = record { running = l .running; reading = l .reading }
 
 -- what runs, by equal names
-record Runs (s memory input types places firsts reads : List ℕ) (given : Given) : Type 0 where
-  running : Running s memory input types places firsts
+record Runs (s memory row types places firsts reads : List ℕ) (given : Given) : Type 0 where
+  running : Running s memory row types places firsts
   same : running .given ≡ given
   reading : (w : ℕ) → w < length types → HoldsJust (getD reads w 0) (readsAt (given .sheet .expressions) w)
 
-renamed : {s memory input types others places firsts reads : List ℕ} {given : Given} → types ≡ others
-    → Runs s memory input types places firsts reads given → Runs s memory input others places firsts reads given
+renamed : {s memory row types others places firsts reads : List ℕ} {given : Given} → types ≡ others
+    → Runs s memory row types places firsts reads given → Runs s memory row others places firsts reads given
 renamed p r = rw p at r
 
 module _ {s memory input output places firsts reads : List ℕ} {inputs wires outputs : ℕ}
     (g : Granted s memory input output places firsts reads inputs wires outputs) where
-  pub laid : ((i : ℕ) → getD memory i 0 < 256) → Laid s memory input output places firsts reads inputs wires outputs
+  -- an input row has at most 64 bytes
+  pub few-bytes : length input ≤ 64
+  few-bytes = omega (arith, input-length s memory input output (g .given) (g .passes))
+
+  pub laid : ((i : ℕ) → getD memory i 0 < 256) → {words : List ℕ} → InputsPut input words
+      → Laid s memory input output places firsts reads words inputs wires outputs
   unfolding Below
-  laid small =
+  laid small {words} put =
       let given = g .given in
-      let p = parts s memory input output places firsts reads given (g .passes) (g .drawn) small in
+      let p = parts s memory input output places firsts reads words given (g .passes) put (g .drawn) small in
       let by = given-by s memory input output given (g .passes) in
       let passed = passed-check s (by .sheet) in
       let i = g .ofInputs in
@@ -76,7 +82,7 @@ module _ {s memory input output places firsts reads : List ℕ} {inputs wires ou
       p .outputs ∙ ap₂ (λ (a b : ℕ). take a (drop b s)) size from in
       let wired : length (given .sheet .expressions) ≡ length (typesAt s inputs wires outputs) =
       sym (passed .same-length) ∙ sym (p .sized) ∙ ap length types in
-      let whole : Runs s memory input bytes places firsts reads given =
+      let whole : Runs s memory (inputWords words) bytes places firsts reads given =
       record { running = p .running; same = p .same; reading = p .reading } in
       let r = renamed types whole in
       record {

@@ -3,4 +3,3 @@ pub mod Passing
 pub mod Storing
 pub mod Laying
 pub mod Calling
-pub mod Agreeing

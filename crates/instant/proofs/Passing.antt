@@ -22,15 +22,14 @@ use Rattle.kernel.specs.Laws.Typing.{OnWires, fits-inherited}
 use Rattle.kernel.specs.Laws.Memory.{round-typed}
 use Rattle.kernel.specs.declared.Value.{Value}
 use Rattle.kernel.specs.declared.Value.the-variants.{Unknown}
-use Rattle.expression.specs.declared.Valued.{Valued}
-use Rattle.expression.specs.Places.{Placement, valuedOf}
+use Rattle.expression.specs.Places.{inputWords, Placement, wholeValue}
 use Rattle.rounds.specs.Running.{Running, Held, unheld, Holds, Put}
 use Rattle.rounds.proofs.Wires.{wires-counted, wire-placed, wire-valued}
-use Rattle.rounds.proofs.Rounding.{at-or-else, put-length, put-other, put-held}
+use Rattle.rounds.proofs.Rounding.{at-or-else, put-length, put-inputs, put-other, put-held}
 use Rattle.instant.specs.Along.{Along, passedOf}
 
-module _ {s memory input types places firsts list start : List ℕ} (a : Along s memory input types places firsts list start) where
-  abbrev run : Running s memory input types places firsts
+module _ {s memory types places firsts list start : List ℕ} (a : Along s memory types places firsts list start) where
+  abbrev run : Running s memory (inputWords start) types places firsts
   run = a .running
 
   abbrev environment : List Value → Environment
@@ -42,7 +41,7 @@ module _ {s memory input types places firsts list start : List ℕ} (a : Along s
   -- the values after the first p positions
   pub record Sofar (p bits : ℕ) (words : List ℕ) : Type 0 where
     pub values : List Value
-    pub holds : Holds (length types) bits words values
+    pub holds : Holds (length types) (inputWords start) bits words values
     pub typed : OnWires Fits (run .given .sheet .wireTypes) values
     pub ahead : (q : ℕ) → p ≤ q → q < length list → member bits (getD list q 0) ≡ false
     pub rest : passFrom (run .given .sheet) (run .given .inputs) (run .given .memory) values (drop p list) ≡ passedOf a
@@ -54,6 +53,7 @@ module _ {s memory input types places firsts list start : List ℕ} (a : Along s
       record {
         values = allUnknown n;
         holds = record {
+          inputs = refl;
           size = length-replicate n Unknown ∙ wires-counted run;
           room = a .room;
           each = λ w l. rw (none w, unknown-at n w) unheld;
@@ -67,7 +67,7 @@ module _ {s memory input types places firsts list start : List ℕ} (a : Along s
   -- where the expression of the wire at position p stands
   abbrev pub placed : {p bits at cell : ℕ} {words : List ℕ} → Sofar p bits words → p < length list
       → at ≡ getD places (getD list p 0) 0 → cell ≡ getD firsts (getD list p 0) 0
-      → Placement s input memory words bits 16 (getD types (getD list p 0) 0) at cell
+      → Placement s memory words bits 16 (getD types (getD list p 0) 0) at cell
   placed {p} h l = wire-placed run (h .holds) (h .typed) (getD list p 0) (a .wires p l)
 
   -- a wire's value has its type
@@ -80,22 +80,23 @@ module _ {s memory input types places firsts list start : List ℕ} (a : Along s
       Fits fits-inherited values typed w t e)
 
   pub further : {p bits after at cell : ℕ} {words new : List ℕ} (h : Sofar p bits words) (l : p < length list)
-      (at-is : at ≡ getD places (getD list p 0) 0) (cell-is : cell ≡ getD firsts (getD list p 0) 0) (v : Valued)
-      → v ≡ valuedOf (placed h l at-is cell-is) false → Put (getD list p 0) bits words (v .value) after new → Sofar (p + 1) after new
+      (at-is : at ≡ getD places (getD list p 0) 0) (cell-is : cell ≡ getD firsts (getD list p 0) 0) (v : Value)
+      → v ≡ wholeValue (placed h l at-is cell-is) false → Put (getD list p 0) bits words v after new → Sofar (p + 1) after new
   unfolding OnWires passFrom
   further {p} {bits} {after} {words = words} {new = new} h l at-is cell-is v e was =
       let w = getD list p 0 in
       let values = h .values in
       let inside : w < length types = a .wires p l in
       let here : w < length values = omega (arith, h .holds .size) in
-      let worth : v .value ≡ worthOf values w = ap (λ (x : Valued). x .value) e ∙ wire-valued run values w inside cell-is in
-      let anew : valueAt (set values w (worthOf values w)) w ≡ v .value = getD-set-same values w (worthOf values w) Unknown here ∙ sym worth in
+      let worth : v ≡ worthOf values w = e ∙ wire-valued run values w inside cell-is in
+      let anew : valueAt (set values w (worthOf values w)) w ≡ v = getD-set-same values w (worthOf values w) Unknown here ∙ sym worth in
       let kept : (x : ℕ) → x ≢ w → valueAt (set values w (worthOf values w)) x ≡ valueAt values x =
       λ x other. getD-set-other values w x (worthOf values w) Unknown other in
       let holder = put-held was (omega (arith, h .holds .room)) (h .ahead p (omega arith) l) in
       record {
         values = set values w (worthOf values w);
         holds = record {
+          inputs = put-inputs was (omega (arith, inside, run .few)) ∙ h .holds .inputs;
           size = simp length-set (h .holds .size);
           room = omega (arith, h .holds .room, put-length was);
           each = λ x m.
@@ -113,6 +114,7 @@ module _ {s memory input types places firsts list start : List ℕ} (a : Along s
         rest = rw add-one (rw (drop-cons list p 0 l) at (h .rest));
       }
 
-  pub passed : {p bits : ℕ} {words : List ℕ} → Sofar p bits words → p ≡ length list → Holds (length types) bits words (passedOf a)
+  pub passed : {p bits : ℕ} {words : List ℕ} → Sofar p bits words → p ≡ length list
+      → Holds (length types) (inputWords start) bits words (passedOf a)
   unfolding passFrom
   passed h e = let done : h .values ≡ passedOf a = rw (e, drop-length) at (h .rest) in rw done at (h .holds)

@@ -1,7 +1,7 @@
 -- How the storing of a memory goes on: the wires below w have stored their cells, and the cells of those that are left still stand.
 use Prim.Native.Nat.{ℕ, zero, suc, _+_, _*_, _≤_, _<_, zero-le}
 use mathlib.Core.Path.{_≡_, refl, sym, ap, _∙_}
-use mathlib.Core.Bool.{false}
+use mathlib.Core.Bool.{Bool, true, false}
 use mathlib.Core.List.{List, [], _∷_, _++_}
 use native.Mathlib.Numerals.{add-one}
 use native.Mathlib.Omega.{arith}
@@ -15,12 +15,17 @@ use Rattle.sheet.specs.Laws.Memory.{pairwise-length, memory-length}
 use Rattle.sheet.specs.declared.Cell.{Cell}
 use Rattle.sheet.specs.declared.Datum.the-variants.{Boolean}
 use Rattle.numbers.specs.Laws.{sets-all, sets-append}
-use Rattle.sheet_check.proofs.Drawing.{forms-snoc}
+use Rattle.sheet_expressions.proofs.Drawing.{forms-snoc}
+use Rattle.kernel.specs.Values.{IsKnown, known}
+use Rattle.kernel.specs.Order.{valueAt}
+use Rattle.kernel.specs.Systems.{Full}
 use Rattle.kernel.specs.Instant.{Environment, under, stored}
 use Rattle.kernel.specs.Instants.{storedCells, nextMemory}
-use Rattle.expression.specs.declared.Valued.{Valued}
+use Rattle.storing.specs.declared.advance.Advanced.{Advanced}
 use Rattle.expression.specs.Places.{CellsStand}
 use Rattle.expression.proofs.Views.{cells-split}
+use Rattle.kernel.specs.declared.Value.{Value}
+use Rattle.rounds.specs.Running.{Held, held}
 use Rattle.rounds.proofs.Wires.{treeAt, cellsBefore, wires-counted, running-stands}
 use Rattle.storing.specs.Advances.{Ready, Advances}
 use Rattle.storing.proofs.Standing.{cells-past, memory-append, stored-length}
@@ -48,7 +53,16 @@ first-within [] (suc w) = zero-le
 first-within (e ∷ es) (suc w) =
     omega (arith, first-within es w, length-append (cellForms e) (formsOf (take w es)), length-append (cellForms e) (formsOf es))
 
-module _ {s start input types places firsts : List ℕ} {bits : ℕ} {words : List ℕ} (f : Settled s start input types places firsts bits words)
+-- a known wire is in the set
+held-known : {b : Bool} {word : ℕ} {v : Value} → Held b word v → IsKnown v → b ≡ true
+held-known (held e) known = refl
+
+full-at : {s start types places firsts words : List ℕ} (f : Settled s start types places firsts words) (w : ℕ) → w < length types
+    → IsKnown (valueAt (f .values) w)
+unfolding Full
+full-at f w l = f .full w l
+
+module _ {s start types places firsts words : List ℕ} (f : Settled s start types places firsts words)
   where
     abbrev trees : List Expression
     trees = f .running .given .sheet .expressions
@@ -108,7 +122,7 @@ module _ {s start input types places firsts : List ℕ} {bits : ℕ} {words : Li
 
     -- the expression of wire w can advance
     pub ready : {w at cell : ℕ} {memory : List ℕ} → Stored w memory → w < length types → at ≡ getD places w 0 → cell ≡ getD firsts w 0
-        → Ready s input memory words bits 16 (getD types w 0) at cell
+        → Ready s memory words 16 (getD types w 0) at cell
     ready {w} h l p q =
         let t = turn h l in
         let here = f .running .starts w l in
@@ -116,6 +130,8 @@ module _ {s start input types places firsts : List ℕ} {bits : ℕ} {words : Li
         let extent = expression-extent (f .running .inputs) types s 16 (getD types w 0) (getD places w 0) (getD firsts w 0) (here .reads) in
         let count : here .count ≡ first (suc w) = omega (arith, extent .counted, here .first, t .counted) in
         record {
+          bits = f .bits;
+          full = λ x m. held-known (f .holds .each x m) (full-at f x m);
           place = record {
             inputs = f .running .inputs;
             wires = types;
@@ -154,7 +170,7 @@ module _ {s start input types places firsts : List ℕ} {bits : ℕ} {words : Li
         }
 
     pub one-stored : {w at cell : ℕ} {memory after : List ℕ} (h : Stored w memory) (l : w < length types) (p : at ≡ getD places w 0)
-        (q : cell ≡ getD firsts w 0) (v : Valued) → Advances (ready h l p q) false v after → Stored (w + 1) after
+        (q : cell ≡ getD firsts w 0) (v : Advanced) → Advances (ready h l p q) false v after → Stored (w + 1) after
     unfolding ready
     one-stored {w} {at} {cell} h l p q v a =
         let number : cell ≡ first w = q ∙ f .running .starts w l .first in

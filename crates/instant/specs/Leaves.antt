@@ -9,7 +9,7 @@ use Rattle.wires.specs.Sets.{member, LowestMissing}
 use Rattle.sheet.specs.Outcomes.{result}
 use Rattle.sheet.specs.Sheets.{Sheet}
 use Rattle.sheet.specs.Laws.Headers.{SheetRead}
-use Rattle.sheet_check.specs.Map.{Sited, wiresOf}
+use Rattle.sheet_expressions.specs.Map.{Sited, wiresOf}
 use Rattle.sheet.specs.declared.Refusal.the-variants.{StaysUnknown}
 use Rattle.kernel.specs.Calls.{Given, givenOf, InstantCall}
 use Rattle.kernel.specs.declared.InRounds.{InRounds}

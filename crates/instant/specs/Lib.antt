@@ -1,4 +1,3 @@
 pub mod Along
 pub mod Settled
 pub mod Leaves
-pub mod Agreement

@@ -7,7 +7,6 @@ use schedule::Ordered;
 use sheet::Refusal;
 use wires::Wires;
 
-pub mod agreement;
 pub mod pass;
 pub mod store;
 
@@ -69,26 +68,18 @@ fn solve_in_rounds(
     ensures { λ r. ⌜ Leaves (roundsCall (now (sheet .entry)) (now (memory .entry)) (now (input .entry)) (now (output .entry)))
         r (now (memory .exit)) (now (output .exit)) ⌝ }
 {
+    let mut words = [0u32; 80];
+    expression::inputs::put_inputs(input, &mut words);
     let from = 2 + inputs;
     let to = from + wires;
     let named = to + 1;
     let first = named + outputs;
     let types = &sheet[from..to];
-    let mut words = [0u32; 64];
-    let solved = rounds::finish(
-        sheet,
-        memory,
-        input,
-        types,
-        places,
-        firsts,
-        reads,
-        &mut words,
-    );
+    let solved = rounds::finish(sheet, memory, types, places, firsts, reads, &mut words);
     let known = solved.known;
     let full = known.count() as usize == types.len();
     if full {
-        store::store(sheet, memory, input, types, places, firsts, known, &words);
+        store::store(sheet, memory, types, places, firsts, &words);
         rounds::write_row(&sheet[named..first], &words, output);
     }
     answered(full, solved.rounds, known)
@@ -172,6 +163,8 @@ fn solve_along(
     ensures { λ r. ⌜ Leaves (scheduledCall (now (sheet .entry)) (now (memory .entry)) (now (input .entry)) (now (output .entry))
         (now (schedule .entry))) r (now (memory .exit)) (now (output .exit)) ⌝ }
 {
+    let mut words = [0u32; 80];
+    expression::inputs::put_inputs(input, &mut words);
     let from = 2 + inputs;
     let to = from + wires;
     let named = to + 1;
@@ -180,18 +173,8 @@ fn solve_along(
     match schedule::check_schedule(schedule, wires, reads) {
         Ordered::Refused { why, place } => Scheduled::Refused { why, place },
         Ordered::Passed => {
-            let mut words = [0u32; 64];
-            let known = pass::pass(
-                sheet,
-                memory,
-                input,
-                types,
-                places,
-                firsts,
-                schedule,
-                &mut words,
-            );
-            store::store(sheet, memory, input, types, places, firsts, known, &words);
+            pass::pass(sheet, memory, types, places, firsts, schedule, &mut words);
+            store::store(sheet, memory, types, places, firsts, &words);
             rounds::write_row(&sheet[named..first], &words, output);
             Scheduled::Accepted
         }

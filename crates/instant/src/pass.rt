@@ -1,8 +1,8 @@
 // The pass along a list of wires, each of which is worked out once. Rests on `expression` and on `rounds` for the set and the words.
-use expression::value;
 use sheet_check::map;
 use wires::Wires;
 ghost use lib.ListN.{length};
+ghost use Rattle.expression.specs.Places.{inputWords};
 ghost use Rattle.rounds.specs.Running.{Holds};
 ghost use Rattle.instant.specs.Along.{Along, passedOf};
 
@@ -10,37 +10,24 @@ ghost use Rattle.instant.specs.Along.{Along, passedOf};
 pub fn pass(
     sheet: &[u8],
     memory: &[u8],
-    input: &[u8],
     types: &[u8],
     places: &[u16; 64],
     firsts: &[u8; 64],
     list: &[u8],
-    words: &mut [u32; 64],
+    words: &mut [u32; 80],
 ) -> Wires
-    requires { ⌜ Along (now sheet) (now memory) (now input) (now types) (now places) (now firsts) (now list) (now words) ⌝ }
-    ensures { λ r. ⌜ ((a : Along (now (sheet .entry)) (now (memory .entry)) (now (input .entry)) (now (types .entry))
+    requires { ⌜ Along (now sheet) (now memory) (now types) (now places) (now firsts) (now list) (now words) ⌝ }
+    ensures { λ r. ⌜ ((a : Along (now (sheet .entry)) (now (memory .entry)) (now (types .entry))
         (now (places .entry)) (now (firsts .entry)) (now (list .entry)) (now (words .entry)))
-        → Holds (length (now (types .entry))) (r .bits) (now (words .exit)) (passedOf a)) ⌝ }
+        → Holds (length (now (types .entry))) (inputWords (now (words .entry))) (r .bits) (now (words .exit)) (passedOf a)) ⌝ }
 {
     let mut known = Wires::none();
     let mut p = 0;
     while p < list.len() {
         let w = list[p] as usize;
         let at = map::place(places[w]);
-        let cell = map::first(firsts[w]);
-        let v = value::value_expression(
-            sheet,
-            &input,
-            &memory,
-            known,
-            words,
-            16,
-            types[w],
-            at,
-            cell,
-            false,
-        );
-        let worth = v.value;
+        let cell = numbers::length_of(firsts[w]);
+        let worth = expression::value_of_wire(sheet, memory, known, words, types[w], at, cell);
         known = rounds::put_value(worth, w, known, words);
         p += 1;
     }

@@ -1,45 +1,31 @@
 // The next memory: all wires advance, one after the other, in one memory. Rests on `advance` for one expression.
 use sheet_check::map;
 use storing::advance;
-use wires::Wires;
 ghost use mathlib.Core.Path.{_≡_};
 ghost use mathlib.Core.Bool.{false};
 ghost use Prim.Native.Nat.{_+_, _<_, _≤_};
 ghost use lib.ListN.{getD};
 ghost use Rattle.instant.specs.Settled.{Settled, storedOf};
 
-// Stores the cells of all wires under the finished values, which the set and the words hold. A wire without cells is passed over.
+// Stores the cells of all wires under the finished values, which the words hold. A wire without cells is passed over.
 pub fn store(
     sheet: &[u8],
     memory: &mut [u8],
-    input: &[u8],
     types: &[u8],
     places: &[u16; 64],
     firsts: &[u8; 64],
-    known: Wires,
-    words: &[u32; 64],
+    words: &[u32; 80],
 )
-    requires { ⌜ Settled (now sheet) (now memory) (now input) (now types) (now places) (now firsts) (known .bits) (now words) ⌝ }
-    ensures { λ _. ⌜ ((f : Settled (now (sheet .entry)) (now (memory .entry)) (now (input .entry)) (now (types .entry))
-        (now (places .entry)) (now (firsts .entry)) (known .bits) (now (words .entry))) → now (memory .exit) ≡ storedOf f) ⌝ }
+    requires { ⌜ Settled (now sheet) (now memory) (now types) (now places) (now firsts) (now words) ⌝ }
+    ensures { λ _. ⌜ ((f : Settled (now (sheet .entry)) (now (memory .entry)) (now (types .entry))
+        (now (places .entry)) (now (firsts .entry)) (now (words .entry))) → now (memory .exit) ≡ storedOf f) ⌝ }
 {
     let mut w = 0;
     while w < types.len() {
         if may_own(firsts, w, types.len()) {
             let at = map::place(places[w]);
-            let cell = map::first(firsts[w]);
-            advance::advance_expression(
-                sheet,
-                &input,
-                memory,
-                known,
-                words,
-                16,
-                types[w],
-                at,
-                cell,
-                false,
-            );
+            let cell = numbers::length_of(firsts[w]);
+            advance::advance_expression(sheet, memory, words, 16, types[w], at, cell, false);
         }
         w += 1;
     }

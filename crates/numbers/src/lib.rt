@@ -1,4 +1,5 @@
-// The 32-bit numbers that wires carry: their bits, what the operations make of them, and their four bytes in a row or a cell.
+// The 32-bit numbers that wires carry: their bits, what the operations make of them, and their four bytes in a row or a cell;
+// and a byte as a length.
 
 ghost use mathlib.Core.Path.{_≡_};
 ghost use Prim.Native.Nat.{_+_, _<_, _≤_};
@@ -102,6 +103,13 @@ fn wide(byte: u8) -> u32
     ensures { λ r. ⌜ (r ≡ byte) × (r < 256) ⌝ }
 {
     byte as u32
+}
+
+// A byte as a length: the prover knows the bounds of a parameter, but not those of an element.
+pub fn length_of(byte: u8) -> usize
+    ensures { λ r. ⌜ (r ≡ byte) × (r < 256) ⌝ }
+{
+    byte as usize
 }
 
 // Stores a word at a place, lowest byte first, and changes nothing else.

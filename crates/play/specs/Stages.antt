@@ -34,7 +34,8 @@ nextInstant p = record {
 }
 
 module _ (bytes : List ℕ) where
-  -- the lines that are left of the text of these bytes
+  -- The lines that are left of the text of these bytes. Of the memory the sheet's cells count, and only while instants are due: what it
+  -- holds behind them, and once the text is over, is free.
   abbrev pub linesLeft : Stage → (memory : List ℕ) → List (List ℕ)
   linesLeft Begin memory = bytesText bytes
   linesLeft (Playing p) memory =

@@ -98,15 +98,7 @@ fn sheet_length(bytes: &[u8]) -> usize
     ensures { λ r. ⌜ r ≡ lengthAt (now (bytes .entry)) ⌝ }
     ensures { λ r. ⌜ r ≤ 65535 ⌝ }
 {
-    wide(bytes[0]) + 256 * wide(bytes[1])
-}
-
-// A byte as a length.
-fn wide(byte: u8) -> usize
-    ensures { λ r. ⌜ r ≡ byte ⌝ }
-    ensures { λ r. ⌜ r ≤ 255 ⌝ }
-{
-    byte as usize
+    numbers::length_of(bytes[0]) + 256 * numbers::length_of(bytes[1])
 }
 
 // Gives the line of a complete sheet: its refusal, or its counts, where its memory is started and its instants are due.

@@ -1,6 +1,6 @@
 -- From round to round: each knows more wires than the one before, and where one knows no more the rounds have finished.
 use Prim.Native.Nat.{ℕ, suc, _+_, _≤_, _<_}
-use mathlib.Core.Path.{_≡_, refl, sym, ap, _∙_}
+use mathlib.Core.Path.{subst, _≡_, refl, sym, ap, _∙_}
 use mathlib.Core.Bool.{Bool, true, false, not, _&&_, cond}
 use mathlib.Core.List.{List, [], _∷_}
 use native.Mathlib.Numerals.{add-one}
@@ -24,6 +24,7 @@ use Rattle.kernel.specs.Laws.Instants.{round-monotone}
 use Rattle.kernel.specs.Laws.Memory.{after-typed}
 use Rattle.kernel.specs.declared.Value.{Value}
 use Rattle.kernel.specs.declared.Value.the-variants.{Unknown}
+use Rattle.expression.specs.Places.{inputWords}
 use Rattle.rounds.specs.Running.{Held, unheld, held, Holds, Running, RunningReads, roundOf, Before}
 use Rattle.rounds.specs.Due.{NotDue}
 use Rattle.rounds.proofs.Wires.{wires-counted}
@@ -43,7 +44,7 @@ each-counted f h (v ∷ vs) each =
     omega (arith, tally-front f (length vs), held-tally (each 0 (omega arith)), rest)
 
 -- as many wires are in the set as values are known
-held-count : {n bits : ℕ} {words : List ℕ} {values : List Value} → Holds n bits words values → n ≤ 64
+held-count : {n bits : ℕ} {row words : List ℕ} {values : List Value} → Holds n row bits words values → n ≤ 64
     → tally (member bits) 64 ≡ knownCount values
 held-count {n} {bits} {words} {values} h few =
     tally-beyond (member bits) n 64 few (h .beyond)
@@ -55,8 +56,8 @@ not-new : (g b : Bool) → (g && not b) ≡ false → b ≡ false → g ≡ fals
 not-new true b e f = sym (ap not f) ∙ e
 not-new false b e f = refl
 
-module _ {s memory input types places firsts reads : List ℕ} (run : RunningReads s memory input types places firsts reads) where
-  abbrev r : Running s memory input types places firsts
+module _ {s memory row types places firsts reads : List ℕ} (run : RunningReads s memory row types places firsts reads) where
+  abbrev r : Running s memory row types places firsts
   r = run .running
 
   abbrev after : ℕ → List Value
@@ -70,18 +71,20 @@ module _ {s memory input types places firsts reads : List ℕ} (run : RunningRea
 
   -- after k rounds, of which each changed something; the next one may pass over the wires of the set, all known ones among them
   pub record Rounded (k bits passed : ℕ) (words : List ℕ) : Type 0 where
-    pub holds : Holds (length types) bits words (after k)
+    pub holds : Holds (length types) row bits words (after k)
     pub changed : (j : ℕ) → j < k → after j ≡ after (suc j) → ⊥
     pub known : (w : ℕ) → member bits w ≡ true → member passed w ≡ true
     pub whole : System.roundOver (roundOf r) (member passed) (after k) ≡ after (suc k)
 
-  pub unrounded : {bits passed : ℕ} {words : List ℕ} → length types ≤ length words → ((w : ℕ) → member bits w ≡ false)
+  pub unrounded : {bits passed : ℕ} {words : List ℕ} → inputWords words ≡ row → length types ≤ length words
+      → ((w : ℕ) → member bits w ≡ false)
       → ((w : ℕ) → member passed w ≡ false) → Rounded 0 bits passed words
   unfolding System.after
-  unrounded {passed = passed} room none nothing =
+  unrounded {passed = passed} inputs room none nothing =
       let n = wireCount (r .given .sheet) in
       record {
         holds = record {
+          inputs = inputs;
           size = length-replicate n Unknown ∙ wires-counted r;
           room = room;
           each = λ w l. rw (none w, unknown-at n w) unheld;
@@ -93,7 +96,7 @@ module _ {s memory input types places firsts reads : List ℕ} (run : RunningRea
       }
 
   pub before : {k bits passed : ℕ} {words : List ℕ} → Rounded k bits passed words
-      → Before s memory input types places firsts bits passed words
+      → Before s memory row types places firsts bits passed words
   unfolding System.after
   before {k} h =
       record {
@@ -104,13 +107,25 @@ module _ {s memory input types places firsts reads : List ℕ} (run : RunningRea
         known = h .known;
       }
 
+  -- by the inputs' words as they stand there
+  pub before-here : {k bits passed : ℕ} {words : List ℕ} → Rounded k bits passed words
+      → Before s memory (inputWords words) types places firsts bits passed words
+  before-here {bits = bits} {passed} {words} h =
+      subst (λ (x : List ℕ). Before s memory x types places firsts bits passed words) (sym (h .holds .inputs)) (before h)
+
+  -- what a round makes of the values before it, and of the inputs' words
+  abbrev pub Made : (row : List ℕ) (bits passed : ℕ) (words : List ℕ) (grown : ℕ) (new : List ℕ) → Type 0
+  Made row bits passed words grown new = (b : Before s memory row types places firsts bits passed words)
+      → Holds (length types) row grown new (System.roundOver (roundOf (b .running)) (member passed) (b .values))
+
   -- One round more.
   module _ {k bits passed grown : ℕ} {words new : List ℕ} (h : Rounded k bits passed words)
-      (made : (b : Before s memory input types places firsts bits passed words)
-      → Holds (length types) grown new (System.roundOver (roundOf (b .running)) (member passed) (b .values))) where
-    next : Holds (length types) grown new (after (suc k))
+      (made : Made (inputWords words) bits passed words grown new) where
+    next : Holds (length types) row grown new (after (suc k))
     unfolding before
-    next = rw (h .whole) at (made (before h))
+    next =
+        rw (h .whole) at
+        (subst (λ (x : List ℕ). Made x bits passed words grown new) (h .holds .inputs) made (before h))
 
     sizes : length (after k) ≡ length (after (suc k))
     sizes = h .holds .size ∙ sym (next .size)
@@ -167,7 +182,7 @@ module _ {s memory input types places firsts reads : List ℕ} (run : RunningRea
           }
 
     pub ended : tally (member grown) 64 ≡ tally (member bits) 64
-        → Holds (length types) grown new (finished (r .given .sheet) (r .given .inputs) (r .given .memory))
+        → Holds (length types) row grown new (finished (r .given .sheet) (r .given .inputs) (r .given .memory))
         × (k + 1 ≡ rounds (r .given .sheet) (r .given .inputs) (r .given .memory))
     unfolding finished rounds System.finished
     ended e =

@@ -7,7 +7,7 @@ use mathlib.Core.List.{List}
 use native.Mathlib.Omega.{arith}
 use lib.Dec.{eqb, ltb}
 use lib.ListN.{length, getD, length-set, List·getD-eq-default}
-use lib.Seq.{getD-set-same, getD-set-other}
+use lib.Seq.{getD-set-same, getD-set-other, drop-set-lt}
 use borrow.Author.Tests.{eq-eqb, ne-eqb, eqb-true, eqb-false, ltb-true, ltb-false}
 use Rattle.wires.specs.Sets.{member, LowestMissing}
 use Rattle.sheet.specs.Laws.Lists.{never, neither}
@@ -18,8 +18,7 @@ use Rattle.kernel.specs.Laws.Due.{over-length, over-at}
 use Rattle.kernel.specs.Laws.Instants.{round-at}
 use Rattle.kernel.specs.declared.Value.{Value}
 use Rattle.kernel.specs.declared.Value.the-variants.{Unknown}
-use Rattle.expression.specs.declared.Valued.{Valued}
-use Rattle.expression.specs.Places.{Placement, valuedOf}
+use Rattle.expression.specs.Places.{inputWords, Placement, wholeValue}
 use Rattle.rounds.specs.Running.{Held, unheld, held, Holds, roundOf, Before, Put, left, put}
 use Rattle.rounds.proofs.Wires.{wire-placed, wire-valued}
 
@@ -53,7 +52,7 @@ unknown-unheld : {b : Bool} {word : ℕ} {v : Value} → Held b word v → v ≡
 unknown-unheld unheld e = refl
 unknown-unheld (held f) e = never (cc)
 
-module _ {n bits : ℕ} {words : List ℕ} {values : List Value} (h : Holds n bits words values) (w : ℕ) where
+module _ {n bits : ℕ} {row words : List ℕ} {values : List Value} (h : Holds n row bits words values) (w : ℕ) where
   pub out-unknown : member bits w ≡ false → valueAt values w ≡ Unknown
   out-unknown e = go (ltb w n) refl
     where
@@ -74,6 +73,10 @@ module _ {w bits after : ℕ} {words new : List ℕ} where
   put-length (left m e) = ap length e
   put-length (put m e) = ap length e ∙ simp length-set
 
+  pub put-inputs : {v : Value} → Put w bits words v after new → w < 64 → inputWords new ≡ inputWords words
+  put-inputs (left m e) l = ap inputWords e
+  put-inputs (put m e) l = ap inputWords e ∙ drop-set-lt 64 words w _ l
+
   pub put-other : {v : Value} → Put w bits words v after new → (x : ℕ) → x ≢ w
       → (member after x ≡ member bits x) × (getD new x 0 ≡ getD words x 0)
   put-other (left m e) x other = (rw m, rw e)
@@ -84,14 +87,14 @@ module _ {w bits after : ℕ} {words new : List ℕ} where
   put-held (left m e) l out = rw (m, out) unheld
   put-held (put m e) l out = rw (m w, out, eq-eqb w w refl) (held (ap (λ x. getD x w 0) e ∙ getD-set-same words w _ 0 l))
 
-module _ {s memory input types places firsts start : List ℕ} {bits passed : ℕ}
-    (b : Before s memory input types places firsts bits passed start) where
+module _ {s memory row types places firsts start : List ℕ} {bits passed : ℕ}
+    (b : Before s memory row types places firsts bits passed start) where
   abbrev pub rounded : List Value
   rounded = roundOver (roundOf (b .running)) (member passed) (b .values)
 
   -- the wires that were seen have their new values, those that are passed over among them; the words still hold the values before
   pub record Midway (seen grown : ℕ) (words : List ℕ) : Type 0 where
-    pub holds : Holds (length types) bits words (b .values)
+    pub holds : Holds (length types) row bits words (b .values)
     pub over : (x : ℕ) → member passed x ≡ true → member seen x ≡ true
     pub done : (x : ℕ) → x < length types → member seen x ≡ true → Held (member grown x) (getD words x 0) (valueAt rounded x)
     pub ahead : (x : ℕ) → member seen x ≡ false → member grown x ≡ false
@@ -119,13 +122,13 @@ module _ {s memory input types places firsts start : List ℕ} {bits passed : �
 
   -- where the expression of wire w stands
   abbrev pub placed : {w seen grown at cell : ℕ} {words : List ℕ} → Midway seen grown words → w < length types → at ≡ getD places w 0
-      → cell ≡ getD firsts w 0 → Placement s input memory words bits 16 (getD types w 0) at cell
+      → cell ≡ getD firsts w 0 → Placement s memory words bits 16 (getD types w 0) at cell
   placed {w} m l = wire-placed (b .running) (m .holds) (b .typed) w l
 
   -- wire w, which was not seen, gets its new value
   module _ {w seen grown at cell : ℕ} {words : List ℕ} (m : Midway seen grown words) (l : w < length types)
       (unseen : member seen w ≡ false) (at-is : at ≡ getD places w 0) (cell-is : cell ≡ getD firsts w 0)
-      (v : Valued) (e : v ≡ valuedOf (placed m l at-is cell-is) false) where
+      (v : Value) (e : v ≡ wholeValue (placed m l at-is cell-is) false) where
     not-passed : member passed w ≡ false
     not-passed = fails-too (m .over w) unseen
 
@@ -135,14 +138,14 @@ module _ {s memory input types places firsts start : List ℕ} {bits passed : �
     was-unknown : valueAt (b .values) w ≡ Unknown
     was-unknown = out-unknown (b .holds) w not-known
 
-    worth : v .value ≡ valueAt rounded w
+    worth : v ≡ valueAt rounded w
     worth =
         let r = b .running in
-        ap (λ (x : Valued). x .value) e ∙ wire-valued r (b .values) w l cell-is
+        e ∙ wire-valued r (b .values) w l cell-is
         ∙ sym (round-at (r .given .sheet) (r .given .inputs) (r .given .memory) (b .values) w)
         ∙ sym (over-at (roundOf r) (member passed) (b .values) w (omega (arith, b .holds .size)) ∙ rw (was-unknown, not-passed))
 
-    pub further : {after more : ℕ} {new : List ℕ} → Put w grown words (v .value) after new
+    pub further : {after more : ℕ} {new : List ℕ} → Put w grown words v after new
         → ((k : ℕ) → member more k ≡ (member seen k || eqb k w)) → Midway more after new
     further {after} {more} {new} p adds =
         let h = m .holds in
@@ -151,6 +154,7 @@ module _ {s memory input types places firsts start : List ℕ} {bits passed : �
         let still : Held (member bits w) (getD new w 0) (valueAt (b .values) w) = rw (not-known, was-unknown) unheld in
         record {
           holds = record {
+            inputs = put-inputs p (omega (arith, b .running .few)) ∙ h .inputs;
             size = h .size;
             room = omega (arith, h .room, put-length p);
             each = λ x k.
@@ -170,9 +174,10 @@ module _ {s memory input types places firsts start : List ℕ} {bits passed : �
         not-added x i = let (out, other) = neither (member seen x) (eqb x w) i in (out, eqb-false x w other)
 
   pub round-done : {w seen grown : ℕ} {words : List ℕ} → Midway seen grown words → LowestMissing (member seen) 64 w → length types ≤ w
-      → Holds (length types) grown words rounded
+      → Holds (length types) row grown words rounded
   round-done m low l =
       record {
+        inputs = m .holds .inputs;
         size = over-length (roundOf (b .running)) (member passed) (b .values) ∙ b .holds .size;
         room = m .holds .room;
         each = λ x k. m .done x k (low .below x (omega arith));

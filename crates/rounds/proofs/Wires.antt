@@ -5,6 +5,7 @@ use mathlib.Core.Bool.{Bool, false}
 use mathlib.Core.List.{List, [], _∷_}
 use native.Mathlib.Nat.{zero-add, add-zero}
 use native.Mathlib.Omega.{arith}
+use lib.Seq.{getD-drop}
 use lib.ListN.{length, getD, take, length-append}
 use Rattle.sheet.specs.Data.{ValueType, typeOfByte, datumOf}
 use Rattle.sheet.specs.Expressions.{Expression, constant, cellForms, cellCount}
@@ -61,7 +62,7 @@ stands-for : {b : Bool} {word : ℕ} {v : Value} {t : ValueType} → Held b word
 stands-for unheld f = refl
 stands-for {t = t} (held {d = d} e) (known-fits i) = ap Known (sym (word-back t d i) ∙ ap (datumOf t) (sym e))
 
-module _ {s memory input types places firsts : List ℕ} (r : Running s memory input types places firsts) where
+module _ {s memory row types places firsts : List ℕ} (r : Running s memory row types places firsts) where
   pub wires-counted : length (r .given .sheet .expressions) ≡ length types
   wires-counted = run-extent (r .inputs) types s 16 types (r .first) 0 (r .run) .sized
 
@@ -69,16 +70,16 @@ module _ {s memory input types places firsts : List ℕ} (r : Running s memory i
   environmentOf = under (r .given .inputs) (r .given .memory)
 
   -- the set and the words that hold typed values stand for them
-  pub running-stands : {words : List ℕ} {bits : ℕ} {values : List Value} → Holds (length types) bits words values
-      → OnWires Fits (r .given .sheet .wireTypes) values → Stands (r .inputs) types input words bits (environmentOf values)
+  pub running-stands : {words : List ℕ} {bits : ℕ} {values : List Value} → Holds (length types) row bits words values
+      → OnWires Fits (r .given .sheet .wireTypes) values → Stands (r .inputs) types words bits (environmentOf values)
   unfolding OnWires
-  running-stands h typed =
+  running-stands {words} h typed =
       record {
-        inputSize = r .inputSize;
-        onInputs = r .onInputs;
+        inputLimit = r .inputLimit;
+        onInputs = λ i l. r .onInputs i l ∙ rw (← (h .inputs), getD-drop);
         wireLimit = r .few;
-        wordSize = h .room;
-        onWires = λ w l. stands-for (h .each w l) (typed w (typeOfByte (getD types w 0)) (rw (r .wireTypes) (type-of-named types w l refl)));
+        onWires = λ w l.
+            stands-for (h .each w l) (typed w (typeOfByte (getD types w 0)) (rw (r .wireTypes) (type-of-named types w l refl)));
       }
 
   pub wire-cells : (w : ℕ) → w < length types
@@ -88,9 +89,9 @@ module _ {s memory input types places firsts : List ℕ} (r : Running s memory i
       rw (r .starts w l .first, ← (zero-add (cellsBefore es w))) (cells-of-wire es 0 w (omega (arith, wires-counted)) (r .cells))
 
   -- where the expression of wire w stands, under values that a set and words hold
-  abbrev pub wire-placed : {words : List ℕ} {bits : ℕ} {values : List Value} → Holds (length types) bits words values
+  abbrev pub wire-placed : {words : List ℕ} {bits : ℕ} {values : List Value} → Holds (length types) row bits words values
       → OnWires Fits (r .given .sheet .wireTypes) values → (w : ℕ) → w < length types → {at cell : ℕ} → at ≡ getD places w 0
-      → cell ≡ getD firsts w 0 → Placement s input memory words bits 16 (getD types w 0) at cell
+      → cell ≡ getD firsts w 0 → Placement s memory words bits 16 (getD types w 0) at cell
   wire-placed {values = values} h typed w l p q =
       let at = r .starts w l in
       record {
@@ -111,4 +112,5 @@ module _ {s memory input types places firsts : List ℕ} (r : Running s memory i
       ≡ valueOfWire (environmentOf values) (r .given .sheet .expressions) 0 w
   wire-valued values w l q =
       let es = r .given .sheet .expressions in
-      rw (q ∙ r .starts w l .first, ← (zero-add (cellsBefore es w))) (sym (value-of-wire (environmentOf values) es 0 w (omega (arith, wires-counted))))
+      rw (q ∙ r .starts w l .first, ← (zero-add (cellsBefore es w)))
+      (sym (value-of-wire (environmentOf values) es 0 w (omega (arith, wires-counted))))

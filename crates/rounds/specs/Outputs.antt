@@ -33,7 +33,7 @@ words-length (w ∷ ws) words = omega (arith, words-length ws words)
 word-held : {b : Bool} {word : ℕ} {v : Value} → Held b word v → IsKnown v → word ≡ wordOf (datumIn v)
 word-held (held e) known = e
 
-row-of-words : {n bits : ℕ} {words : List ℕ} {values : List Value} → Holds n bits words values → Full n values → (outputs : List ℕ)
+row-of-words : {n bits : ℕ} {row words : List ℕ} {values : List Value} → Holds n row bits words values → Full n values → (outputs : List ℕ)
     → Below n outputs → wordsOf outputs words ≡ rowBytes (map (λ w. datumIn (valueAt values w)) outputs)
 unfolding Below wordsOf rowBytes Full
 row-of-words h full [] l = refl
@@ -44,7 +44,7 @@ row-of-words h full (w ∷ ws) l =
     )
 
 -- where no value is unknown, the words make the output row
-pub output-words : {n bits : ℕ} {words : List ℕ} {values : List Value} → Holds n bits words values → Full n values → (sheet : Sheet)
+pub output-words : {n bits : ℕ} {row words : List ℕ} {values : List Value} → Holds n row bits words values → Full n values → (sheet : Sheet)
     → Below n (sheet .outputs) → wordsOf (sheet .outputs) words ≡ rowBytes (outputRow sheet values)
 unfolding outputRow
 output-words h full sheet l = row-of-words h full (sheet .outputs) l

@@ -8,11 +8,10 @@ use lib.ListN.{length, getD, set}
 use Rattle.wires.specs.Sets.{member}
 use Rattle.sheet.specs.Data.{typeOfByte, datumOf, wordOf}
 use Rattle.sheet.specs.Readings.{got, readEach, readExpression}
-use Rattle.sheet.specs.Rows.{entryAt}
 use Rattle.sheet.specs.Sheets.{sheetForms}
 use Rattle.sheet.specs.Typing.{WellTyped, ValidInputs, ValidMemory}
 use Rattle.sheet.specs.declared.Datum.{Datum}
-use Rattle.sheet_check.specs.Map.{StartsAt, HoldsJust, runOf}
+use Rattle.sheet_expressions.specs.Map.{StartsAt, HoldsJust, runOf}
 use Rattle.kernel.specs.Values.{Fits}
 use Rattle.kernel.specs.Order.{valueAt}
 use Rattle.kernel.specs.Instant.{inputAt}
@@ -21,11 +20,11 @@ use Rattle.kernel.specs.Calls.{Given}
 use Rattle.kernel.specs.Laws.Typing.{OnWires}
 use Rattle.kernel.specs.declared.Value.{Value}
 use Rattle.kernel.specs.declared.Value.the-variants.{Unknown, Known}
-use Rattle.expression.specs.Places.{CellsStand}
+use Rattle.expression.specs.Places.{inputWords, CellsStand}
 
--- the bytes that passed the checks, with what they say: `types` are the wires' type bytes, and the map says where each wire's expression
--- starts and which cell is its first
-pub record Running (s memory input types places firsts : List ℕ) : Type 0 where
+-- the bytes that passed the checks, with what they say: `row` are the inputs' words, `types` the wires' type bytes, and the map says where
+-- each wire's expression starts and which cell is its first
+pub record Running (s memory row types places firsts : List ℕ) : Type 0 where
   pub given : Given
   pub inputs : List ℕ
   pub first : ℕ
@@ -37,8 +36,8 @@ pub record Running (s memory input types places firsts : List ℕ) : Type 0 wher
   pub inputTypes : given .sheet .inputTypes ≡ map typeOfByte inputs
   pub wireTypes : given .sheet .wireTypes ≡ map typeOfByte types
   pub few : length types ≤ 64
-  pub inputSize : length input ≡ 4 * length inputs
-  pub onInputs : (i : ℕ) → i < length inputs → inputAt (given .inputs) i ≡ datumOf (typeOfByte (getD inputs i 0)) (entryAt input i)
+  pub inputLimit : length inputs ≤ 16
+  pub onInputs : (i : ℕ) → i < length inputs → inputAt (given .inputs) i ≡ datumOf (typeOfByte (getD inputs i 0)) (getD row i 0)
   pub memorySize : length memory ≡ 5 * length (sheetForms (given .sheet))
   pub cells : CellsStand memory (given .memory) 0 (sheetForms (given .sheet))
   pub wellTyped : WellTyped (given .sheet)
@@ -46,8 +45,8 @@ pub record Running (s memory input types places firsts : List ℕ) : Type 0 wher
   pub validMemory : ValidMemory (given .sheet) (given .memory)
 
 -- what runs, with the set of the wires that each wire reads within the instant
-pub record RunningReads (s memory input types places firsts reads : List ℕ) : Type 0 where
-  pub running : Running s memory input types places firsts
+pub record RunningReads (s memory row types places firsts reads : List ℕ) : Type 0 where
+  pub running : Running s memory row types places firsts
   pub reading : (w : ℕ) → w < length types → HoldsJust (getD reads w 0) (readsAt (running .given .sheet .expressions) w)
 
 -- an unknown wire is not in the set, and its word is free: nobody reads it; a known one is in it, and its word stands for its datum
@@ -55,22 +54,23 @@ pub data Held : Bool → ℕ → Value → Type 0 where
   unheld : {word : ℕ} → Held false word Unknown
   held : {word : ℕ} {d : Datum} → word ≡ wordOf d → Held true word (Known d)
 
--- the set and the words hold the values of n wires
-pub record Holds (n bits : ℕ) (words : List ℕ) (values : List Value) : Type 0 where
+-- the set and the words hold the values of n wires, and behind the wires' words stand those of the inputs
+pub record Holds (n : ℕ) (row : List ℕ) (bits : ℕ) (words : List ℕ) (values : List Value) : Type 0 where
+  pub inputs : inputWords words ≡ row
   pub size : length values ≡ n
   pub room : n ≤ length words
   pub each : (w : ℕ) → w < n → Held (member bits w) (getD words w 0) (valueAt values w)
   pub beyond : (w : ℕ) → n ≤ w → member bits w ≡ false
 
 -- the round of what runs
-abbrev pub roundOf : {s memory input types places firsts : List ℕ} → Running s memory input types places firsts → List Value → List Value
+abbrev pub roundOf : {s memory row types places firsts : List ℕ} → Running s memory row types places firsts → List Value → List Value
 roundOf r = round (r .given .sheet) (r .given .inputs) (r .given .memory)
 
 -- what runs, with the values before a round and the set of the wires that it passes over, all known ones among them
-pub record Before (s memory input types places firsts : List ℕ) (bits passed : ℕ) (words : List ℕ) : Type 0 where
-  pub running : Running s memory input types places firsts
+pub record Before (s memory row types places firsts : List ℕ) (bits passed : ℕ) (words : List ℕ) : Type 0 where
+  pub running : Running s memory row types places firsts
   pub values : List Value
-  pub holds : Holds (length types) bits words values
+  pub holds : Holds (length types) row bits words values
   pub typed : OnWires Fits (running .given .sheet .wireTypes) values
   pub known : (w : ℕ) → member bits w ≡ true → member passed w ≡ true
 

@@ -1,6 +1,5 @@
 // The rounds of an instant, each of which works the wires that are due out from the values before it, and the output row of the words.
 // Rests on `expression` for the value of one expression and on `wires` for the set of known wires.
-use expression::value;
 use kernel::Value;
 use sheet::data;
 use sheet_check::map;
@@ -14,6 +13,7 @@ ghost use lib.ListN.{length};
 ghost use Rattle.wires.specs.Sets.{member};
 ghost use Rattle.kernel.specs.Systems.{roundOver};
 ghost use Rattle.kernel.specs.Instants.{rounds, finished};
+ghost use Rattle.expression.specs.Places.{inputWords};
 ghost use Rattle.rounds.specs.Running.{RunningReads, Holds, roundOf, Before, Put};
 ghost use Rattle.rounds.specs.Outputs.{Below, wordsOf};
 
@@ -24,7 +24,7 @@ pub struct Finished {
 }
 
 // Puts the value of a wire: a known one into the set, and its word into the words.
-pub fn put_value(worth: Value, wire: usize, known: Wires, words: &mut [u32; 64]) -> Wires
+pub fn put_value(worth: Value, wire: usize, known: Wires, words: &mut [u32; 80]) -> Wires
     requires { ⌜ (wire < 64) × (wire < length (now words)) ⌝ }
     ensures { λ r. ⌜ Put wire (known .bits) (now (words .entry)) worth (r .bits) (now (words .exit)) ⌝ }
 {
@@ -38,23 +38,22 @@ pub fn put_value(worth: Value, wire: usize, known: Wires, words: &mut [u32; 64])
 }
 
 // One round over the wires that are not passed over: each is worked out from the values before, where the map says; the set of known wires
-// comes back, grown or the same. Those known before are all passed over, so that their words stay while the round reads them.
+// comes back, grown or the same. No known wire is worked out again, so that the words of the values before are still there.
 fn round(
     sheet: &[u8],
     memory: &[u8],
-    input: &[u8],
     types: &[u8],
     places: &[u16; 64],
     firsts: &[u8; 64],
     before: Wires,
     passed: Wires,
-    words: &mut [u32; 64],
+    words: &mut [u32; 80],
 ) -> Wires
-    requires { ⌜ Before (now sheet) (now memory) (now input) (now types) (now places) (now firsts)
+    requires { ⌜ Before (now sheet) (now memory) (inputWords (now words)) (now types) (now places) (now firsts)
         (before .bits) (passed .bits) (now words) ⌝ }
-    ensures { λ r. ⌜ ((b : Before (now (sheet .entry)) (now (memory .entry)) (now (input .entry)) (now (types .entry))
+    ensures { λ r. ⌜ ((b : Before (now (sheet .entry)) (now (memory .entry)) (inputWords (now (words .entry))) (now (types .entry))
         (now (places .entry)) (now (firsts .entry)) (before .bits) (passed .bits) (now (words .entry)))
-        → Holds (length (now (types .entry))) (r .bits) (now (words .exit))
+        → Holds (length (now (types .entry))) (inputWords (now (words .entry))) (r .bits) (now (words .exit))
         (roundOver (roundOf (b .running)) (member (passed .bits)) (b .values))) ⌝ }
 {
     let mut grown = before;
@@ -62,20 +61,8 @@ fn round(
     let mut w = passed.lowest_missing() as usize;
     while w < types.len() {
         let at = map::place(places[w]);
-        let cell = map::first(firsts[w]);
-        let v = value::value_expression(
-            sheet,
-            &input,
-            &memory,
-            before,
-            words,
-            16,
-            types[w],
-            at,
-            cell,
-            false,
-        );
-        let worth = v.value;
+        let cell = numbers::length_of(firsts[w]);
+        let worth = expression::value_of_wire(sheet, memory, before, words, types[w], at, cell);
         grown = put_value(worth, w, grown, words);
         seen = seen.with(w);
         w = seen.lowest_missing() as usize;
@@ -87,18 +74,17 @@ fn round(
 pub fn finish(
     sheet: &[u8],
     memory: &[u8],
-    input: &[u8],
     types: &[u8],
     places: &[u16; 64],
     firsts: &[u8; 64],
     reads: &[u64; 64],
-    words: &mut [u32; 64],
+    words: &mut [u32; 80],
 ) -> Finished
-    requires { ⌜ RunningReads (now sheet) (now memory) (now input) (now types) (now places) (now firsts) (now reads)
+    requires { ⌜ RunningReads (now sheet) (now memory) (inputWords (now words)) (now types) (now places) (now firsts) (now reads)
         × (length (now types) ≤ length (now words)) ⌝ }
-    ensures { λ r. ⌜ ((run : RunningReads (now (sheet .entry)) (now (memory .entry)) (now (input .entry)) (now (types .entry))
+    ensures { λ r. ⌜ ((run : RunningReads (now (sheet .entry)) (now (memory .entry)) (inputWords (now (words .entry))) (now (types .entry))
         (now (places .entry)) (now (firsts .entry)) (now (reads .entry)))
-        → Holds (length (now (types .entry))) (r .known .bits) (now (words .exit))
+        → Holds (length (now (types .entry))) (inputWords (now (words .entry))) (r .known .bits) (now (words .exit))
         (finished (run .running .given .sheet) (run .running .given .inputs) (run .running .given .memory))
         × (r .rounds ≡ rounds (run .running .given .sheet) (run .running .given .inputs) (run .running .given .memory))) ⌝ }
 {
@@ -106,17 +92,7 @@ pub fn finish(
     let mut passed = Wires::none();
     let mut rounds = 0;
     loop {
-        let grown = round(
-            sheet,
-            memory,
-            input,
-            types,
-            places,
-            firsts,
-            known,
-            passed,
-            words,
-        );
+        let grown = round(sheet, memory, types, places, firsts, known, passed, words);
         let made = rounds + 1;
         if grown.count() == known.count() {
             return Finished {
@@ -132,7 +108,7 @@ pub fn finish(
 }
 
 // Writes the word of each output's wire into its entry of the row.
-pub fn write_row(outputs: &[u8], words: &[u32; 64], row: &mut [u8])
+pub fn write_row(outputs: &[u8], words: &[u32; 80], row: &mut [u8])
     requires { ⌜ Below 64 (now outputs) × (length (now row) ≡ 4 * length (now outputs)) ⌝ }
     ensures { λ _. ⌜ now (row .exit) ≡ wordsOf (now (outputs .entry)) (now (words .entry)) ⌝ }
 {

@@ -13,7 +13,7 @@ use Rattle.sheet.specs.Outcomes.{result, lowest, unlessLength, unlessAny}
 use Rattle.sheet.specs.Sheets.{Sheet}
 use Rattle.sheet.specs.Laws.Lowest.{lowest-first}
 use Rattle.sheet.specs.declared.Refusal.the-variants.{ScheduleLength, ScheduleEntry, ScheduleOrder}
-use Rattle.sheet_check.specs.Map.{HoldsJust}
+use Rattle.sheet_expressions.specs.Map.{HoldsJust}
 use Rattle.wires.specs.Sets.{member, TestsWithin}
 use Rattle.sheet.specs.Lists.{among, allAmong}
 use Rattle.sheet.specs.Laws.Lists.{both, neither, among-append}

@@ -1,4 +1,4 @@
-// The checks 17 to 19 of a schedule. Rests on the set of wires, and on `sheet_check` for the map of a sheet.
+// The checks 17 to 19 of a schedule. Rests on the set of wires, and on `sheet_expressions` for the map of a sheet.
 use sheet::Refusal;
 use wires::Wires;
 ghost use mathlib.Core.Path.{_≡_};
@@ -7,7 +7,7 @@ ghost use Prim.Native.Nat.{ℕ, _<_, _≤_};
 ghost use lib.ListN.{length, getD};
 ghost use Rattle.sheet.specs.Outcomes.{lowest};
 ghost use Rattle.sheet.specs.Sheets.{Sheet};
-ghost use Rattle.sheet_check.specs.Map.{HoldsJust};
+ghost use Rattle.sheet_expressions.specs.Map.{HoldsJust};
 ghost use Rattle.kernel.specs.Instants.{readsAt};
 ghost use Rattle.kernel.specs.Schedules.{entryAt, notNew, tooEarly, scheduleOf};
 ghost use Rattle.schedule.specs.Orders.{orderedAnswer};

@@ -27,7 +27,7 @@ pub fn word_of(datum: Datum) -> u32
 }
 
 // The word that stands for a Boolean.
-fn word_of_bool(b: bool) -> u32
+pub fn word_of_bool(b: bool) -> u32
     ensures { λ r. ⌜ r ≡ wordOf (Boolean b) ⌝ }
 {
     if b { 1 } else { 0 }

@@ -3,23 +3,28 @@ use crate::Cell;
 use crate::data;
 ghost use mathlib.Core.Path.{_≡_};
 ghost use Prim.Native.Nat.{_+_, _*_, _≤_};
+ghost use mathlib.Core.Bool.{not};
 ghost use mathlib.Core.List.{_∷_};
+ghost use lib.Dec.{eqb};
 ghost use lib.ListN.{length};
 ghost use lib.Seq.{sets};
 ghost use Rattle.numbers.specs.Words.{wordBytes};
-ghost use Rattle.sheet.specs.Data.{typeOfByte};
-ghost use Rattle.sheet.specs.Memory.{readCell, cellBytes};
+ghost use Rattle.sheet.specs.Memory.{markAt, cellWordAt, cellBytes};
 
-// The cell with number k, which holds data of the type that the byte stands for.
-pub fn cell_at(memory: &[u8], k: usize, byte: u8) -> Cell
+// Whether the cell with number k is started.
+pub fn is_started(memory: &[u8], k: usize) -> bool
     requires { ⌜ 5 * k + 5 ≤ length (now memory) ⌝ }
-    ensures { λ r. ⌜ r ≡ readCell (typeOfByte byte) (now (memory .entry)) k ⌝ }
+    ensures { λ r. ⌜ r ≡ not (eqb (markAt (now (memory .entry)) k) 0) ⌝ }
 {
-    let at = 5 * k;
-    if memory[at] == 0 {
-        return Cell::NotStarted;
-    }
-    Cell::Started(data::datum_of(byte, numbers::word_at(memory, at + 1)))
+    memory[5 * k] != 0
+}
+
+// The word of its value.
+pub fn word_in(memory: &[u8], k: usize) -> u32
+    requires { ⌜ 5 * k + 5 ≤ length (now memory) ⌝ }
+    ensures { λ r. ⌜ r ≡ cellWordAt (now (memory .entry)) k ⌝ }
+{
+    numbers::word_at(memory, 5 * k + 1)
 }
 
 // Stores the cell with number k, and changes nothing else.

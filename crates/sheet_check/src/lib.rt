@@ -1,7 +1,5 @@
 // The check of a sheet, from its first byte on: its length, the header's three sections, one expression for each wire; and the map
-// that it draws on the way. Rests on `header`, on `expressions` and on `sheet_names`.
-mod expressions;
-mod header;
+// that it draws on the way. Rests on `sheet_header`, on `sheet_expressions` and on `sheet_names`.
 pub mod map;
 
 use sheet::Checked;
@@ -15,7 +13,7 @@ ghost use Rattle.sheet.specs.Headers.{sectionOf};
 ghost use Rattle.sheet.specs.Sheets.{Sheet, before, checkedOf, expressionsFrom, outputsFrom, wiresFrom, checkOf};
 ghost use Rattle.sheet.specs.Laws.Headers.{SheetRead};
 ghost use Rattle.sheet.specs.declared.Refusal.the-variants.{TypeByte, OutputWire};
-ghost use Rattle.sheet_check.specs.Map.{TypeBytes, Tables, Drawn, Mapped, wiresOf, whereGot};
+ghost use Rattle.sheet_expressions.specs.Map.{TypeBytes, Tables, Drawn, Mapped, wiresOf, whereGot};
 
 // The check of any bytes: the four counts of a sheet, or the first refusal with its place.
 pub fn check(sheet: &[u8]) -> Checked
@@ -53,7 +51,7 @@ pub fn check_map(
             place: 0,
         };
     }
-    match header::section(sheet, 0, 0, 17, 2, false, Refusal::TypeByte) {
+    match sheet_header::section(sheet, 0, 0, 17, 2, false, Refusal::TypeByte) {
         Read::Refused { why, place } => Checked::Refused { why, place },
         Read::Got { next, count } => wires_from(
             sheet,
@@ -85,7 +83,7 @@ fn wires_from(
         Drawn (now (inputs .entry)) (before (now (sheet .entry)) n k) (now (sheet .entry)) m
         (now (places .exit)) (now (firsts .exit)) (now (reads .exit)) (now (cells .exit)))) ⌝ }
 {
-    match header::section(sheet, at, 1, 65, 2, false, Refusal::TypeByte) {
+    match sheet_header::section(sheet, at, 1, 65, 2, false, Refusal::TypeByte) {
         Read::Refused { why, place } => Checked::Refused { why, place },
         Read::Got { next, count } => outputs_from(
             sheet,
@@ -118,7 +116,7 @@ fn outputs_from(
         Drawn (now (inputs .entry)) (now (wires .entry)) (now (sheet .entry)) n
         (now (places .exit)) (now (firsts .exit)) (now (reads .exit)) (now (cells .exit))) ⌝ }
 {
-    match header::section(sheet, at, 1, 17, wires.len(), true, Refusal::OutputWire) {
+    match sheet_header::section(sheet, at, 1, 17, wires.len(), true, Refusal::OutputWire) {
         Read::Refused { why, place } => Checked::Refused { why, place },
         Read::Got { next, count } => expressions_from(
             sheet,
@@ -154,7 +152,7 @@ fn expressions_from(
         (now (places .exit)) (now (firsts .exit)) (now (reads .exit)) (now (cells .exit)) ⌝ }
 {
     let names = sheet_names::names_of(inputs, wires);
-    match expressions::check_wires(&sheet, &names, wires, at, places, firsts, reads, cells) {
+    match sheet_expressions::check_wires(&sheet, &names, wires, at, places, firsts, reads, cells) {
         Read::Refused { why, place } => Checked::Refused { why, place },
         Read::Got { next, count } => {
             if next < sheet.len() {

@@ -18,7 +18,7 @@ use Rattle.sheet.specs.declared.Refusal.the-variants.{MemoryLength}
 use Rattle.sheet.specs.declared.Checked.the-variants.{Refused as CheckRefused, Passed}
 use Rattle.sheet.specs.declared.Started.{Started as StartAnswer}
 use Rattle.sheet.specs.declared.Started.the-variants.{Refused, Done}
-use Rattle.sheet_check.specs.Map.{Mapped, wiresOf}
+use Rattle.sheet_expressions.specs.Map.{Mapped, wiresOf}
 use Rattle.sheet_start.specs.Owners.{Noted, Starts}
 
 -- what a sheet that passes the check with so many cells has, where they were noted

@@ -19,7 +19,7 @@ use Rattle.sheet.specs.Laws.Memory.{memory-length}
 use Rattle.sheet.specs.Laws.Readings.{ownForms, own-starts, every-kind, _▸_, end}
 use Rattle.sheet.specs.declared.Cell.{Cell}
 use Rattle.sheet.specs.declared.Cell.the-variants.{NotStarted, Started}
-use Rattle.sheet_check.specs.Map.{ownerIn, CellNoted}
+use Rattle.sheet_expressions.specs.Map.{ownerIn, CellNoted}
 use Rattle.sheet_start.specs.Owners.{ownBytes, Noted}
 
 -- the starting bytes of cells of these forms

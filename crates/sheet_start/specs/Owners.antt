@@ -10,7 +10,7 @@ use Rattle.sheet.specs.Kinds.{cellsOf}
 use Rattle.sheet.specs.Memory.{cellBytes, memoryBytes, startMemory, ownCell}
 use Rattle.sheet.specs.Readings.{bodyAt}
 use Rattle.sheet.specs.Typing.{Pairwise}
-use Rattle.sheet_check.specs.Map.{CellNoted}
+use Rattle.sheet_expressions.specs.Map.{CellNoted}
 use Rattle.sheet.specs.declared.Refusal.the-variants.{MemoryLength}
 use Rattle.sheet.specs.declared.Started.{Started as StartAnswer}
 use Rattle.sheet.specs.declared.Started.the-variants.{Refused, Done}

@@ -8,46 +8,36 @@ use native.Mathlib.Omega.{arith}
 use lib.Dec.{ltb, eqb}
 use lib.ListN.{getD, take}
 use lib.Seq.{sets}
-use borrow.Author.Tests.{ltb-true, ltb-false, eqb-true, eqb-false}
-use Rattle.sheet.specs.Data.{ValueType, typeOfByte, datumOf}
-use Rattle.sheet.specs.Expressions.{Expression, Unary, Binary, Choice, unary, binary, choose, reset, pre, fby, present, conditional}
+use borrow.Author.Tests.{ltb-true, ltb-false, eqb-true, eqb-false, ne-eqb}
+use Rattle.sheet.specs.Data.{ValueType, typeOfByte, datumOf, wordOf}
+use Rattle.sheet.specs.Expressions.{Unary, Binary, Choice, unary, binary, choose, reset, pre, fby, present}
 use Rattle.sheet.specs.Kinds.{bodyOf, countOf, operandsOf}
-use Rattle.sheet.specs.Memory.{cellBytes, memoryBytes, readCell}
+use Rattle.sheet.specs.Memory.{cellBytes, cellWordAt, memoryBytes}
 use Rattle.sheet.specs.Readings.{bodyAt}
 use Rattle.sheet.specs.declared.Datum.{Datum}
 use Rattle.sheet.specs.declared.Cell.{Cell}
-use Rattle.sheet.specs.declared.Cell.the-variants.{NotStarted, Started}
+use Rattle.sheet.specs.declared.Cell.the-variants.{Started}
 use Rattle.sheet_walk.specs.declared.skip.Skipped.{Skipped}
-use Rattle.kernel.specs.Values.{truth, whenKnown, isTrue, datumIn}
-use Rattle.kernel.specs.Operations.{unaryOf, binaryOf, unaryValue, binaryValue}
-use Rattle.kernel.specs.Instant.{runs, chosen, value, stored, cellAt, heldOr, knownOr}
-use Rattle.kernel.specs.declared.Value.{Value}
-use Rattle.kernel.specs.declared.Value.the-variants.{Unknown, Known}
-use Rattle.expression.specs.Leaves.{leafValued}
-use Rattle.expression.specs.Places.{Placement, valuedOf}
-use Rattle.expression.specs.declared.Valued.{Valued}
-use Rattle.expression.proofs.Views.{operand-counted, Alone, One, Two, Three, own-cell}
+use Rattle.kernel.specs.Values.{isTrue, datumIn}
+use Rattle.operations.specs.Words.{unaryWord, binaryWord}
+use Rattle.kernel.specs.Operations.{unaryOf, binaryOf}
+use Rattle.kernel.specs.Instant.{runs, stored}
+use Rattle.expression.specs.Leaves.{knownBy, leafWord}
+use Rattle.expression.specs.Places.{Placement, Gives, isSeen, preWord}
+use Rattle.expression.proofs.Views.{Operand, placed, operand-counted, One, Two, Three}
 use Rattle.expression.proofs.Views.{unary-view, binary-view, conditional-view, present-view, reset-view, fby-view, pre-view}
 use Rattle.expression.proofs.Views.{constant-view, wire-view, input-view}
-use Rattle.expression.proofs.Values.{operandValue, wholeValue, unary-value, binary-value, choose-value, first-chosen, reset-value, fby-value}
-use Rattle.expression.proofs.Values.{finished}
-use Rattle.expression.proofs.Answers.{leaf-answer}
+use Rattle.expression.proofs.Values.{operandValue, Ended, by-value, by-walk}
+use Rattle.expression.proofs.Giving.{unary-gives, binary-gives, conditional-gives, present-gives-first, present-gives-second, reset-gives}
+use Rattle.expression.proofs.Giving.{fby-gives-left, fby-gives-cell, pre-gives, leaf-gives}
 use Rattle.storing.specs.Advances.{Ready, Advances}
+use Rattle.storing.specs.declared.advance.Advanced.{Advanced}
 use Rattle.storing.proofs.Steps.{Steps, Stays, operandStored, operandKept, put-first, one-ready, one-step, two-ready, two-step, two-step-2}
 use Rattle.storing.proofs.Steps.{three-step, three-step-2, three-step-3, three-rest-2, three-rest-3, rest-step-3}
 
--- a present whose condition does not hold, and a reset, under their condition
-present-else : (c v w : Value) → isTrue c ≡ false → whenKnown c (λ t. w) ≡ whenKnown c (λ t. chosen present (truth t) v w)
-present-else Unknown v w e = refl
-present-else (Known d) v w e = rw e
-
-reset-under : (c : Value) (f : Bool → Value) → whenKnown c (λ t. f (isTrue c)) ≡ whenKnown c (λ t. f (truth t))
-reset-under Unknown f = refl
-reset-under (Known d) f = refl
-
-module _ {sheet row memory words : List ℕ} {bits level asked at cell : ℕ}
-    (p : Ready sheet row memory words bits level asked at cell) (fresh : Bool) where
-  abbrev here : Placement sheet row memory words bits level asked at cell
+module _ {sheet memory words : List ℕ} {level asked at cell : ℕ}
+    (p : Ready sheet memory words level asked at cell) (fresh : Bool) where
+  abbrev here : Placement sheet memory words (p .bits) level asked at cell
   here = p .place
 
   abbrev kind : ℕ
@@ -91,14 +81,22 @@ module _ {sheet row memory words : List ℕ} {bits level asked at cell : ℕ}
   unfolding stored
   fby-stored w = ap (λ e. stored (here .now) fresh e cell) (w .ends .tree) ∙ rw (operand-counted here (w .first), add-one)
 
-  -- the whole, from its value, the end of its last operand and its cells
-  finish : {a k : ℕ} {e : Expression} → Alone here a k e → {v : Value} {n j : ℕ} → v ≡ wholeValue here fresh → n ≡ a → j ≡ k
-      → {cs : List Cell} {m : List ℕ} → m ≡ sets memory (5 * cell) (memoryBytes cs) → cs ≡ wholeStored
-      → Advances p fresh (record { value = v; next = n; cell = j }) m
-  finish w x y z holds is =
-      record { answer = finished here fresh w x y z; holds = holds ∙ ap (λ cs. sets memory (5 * cell) (memoryBytes cs)) is }
+  -- what the word of an operand says of it as a condition, and as what a cell gets
+  word-true : {a k : ℕ} {f : Bool} {v n j : ℕ} {o : Operand here 0 a k} → Gives (placed here o) f v n j
+      → isTrue (operandValue here f o) ≡ eqb v 1
+  word-true g = ap isTrue (g .value)
 
-  -- a leaf has no cells
+  word-datum : {t a k : ℕ} {f : Bool} {v n j : ℕ} {o : Operand here t a k} → Gives (placed here o) f v n j
+      → datumIn (operandValue here f o) ≡ datumOf (typeOfByte t) v
+  word-datum g = ap datumIn (g .value)
+
+  -- the whole, from its word, where it ends and its cells
+  finish : {v n j : ℕ} → Gives here fresh v n j → {cs : List Cell} {m : List ℕ} → m ≡ sets memory (5 * cell) (memoryBytes cs)
+      → wholeStored ≡ cs → Advances p fresh (record { next = n; word = v; cell = j }) m
+  finish g holds is =
+      record { answer = g; holds = holds ∙ ap (λ cs. sets memory (5 * cell) (memoryBytes cs)) (sym is) }
+
+  -- a leaf has no cells, and a wire that it names is known
   leaf-stored : kind < 4 → wholeStored ≡ []
   unfolding stored
   leaf-stored below = by (ltb kind 2) (eqb kind 2) refl refl
@@ -112,124 +110,118 @@ module _ {sheet row memory words : List ℕ} {bits level asked at cell : ℕ}
           let is : kind ≡ 3 = omega arith in
           ap (λ e. stored (here .now) fresh e cell) (input-view here is .leaf .tree)
 
-  pub leaf-advances : kind < 4 → {r : Valued} → r ≡ leafValued sheet row words bits asked at cell → Advances p fresh r memory
+  leaf-known : knownBy (p .bits) kind (bodyAt sheet at) ≡ true
+  leaf-known = by (eqb kind 2) refl
+    where
+      by : (b : Bool) → eqb kind 2 ≡ b → knownBy (p .bits) kind (bodyAt sheet at) ≡ true
+      by true e = rw e (p .full (bodyAt sheet at) (wire-view here (eqb-true kind 2 e) .within))
+      by false e = rw e
+
+  pub leaf-advances : kind < 4 → {r : Advanced}
+      → r ≡ record { next = at + 1 + bodyOf kind; word = leafWord sheet words at; cell = cell } → Advances p fresh r memory
   unfolding memoryBytes
-  leaf-advances below e = record { answer = e ∙ leaf-answer here fresh below; holds = rw (leaf-stored below) }
+  leaf-advances below e = rw e (finish (leaf-gives here fresh below leaf-known) refl (leaf-stored below))
 
   module _ (types : List ℕ) (e : take (countOf kind) types ≡ operandsOf kind asked) where
-    pub operation-ready : 4 ≤ kind → kind < 12 → Ready sheet row memory words bits (level - 1) (getD types 0 0) (at + 1) cell
+    pub operation-ready : 4 ≤ kind → kind < 12 → Ready sheet memory words (level - 1) (getD types 0 0) (at + 1) cell
     operation-ready low high = by (ltb kind 6) refl
       where
-        by : (b : Bool) → ltb kind 6 ≡ b → Ready sheet row memory words bits (level - 1) (getD types 0 0) (at + 1) cell
+        by : (b : Bool) → ltb kind 6 ≡ b → Ready sheet memory words (level - 1) (getD types 0 0) (at + 1) cell
         by true t = one-ready p (unary-view here types e low (ltb-true _ _ t))
         by false t = two-ready p (binary-view here types e (ltb-false _ _ t) high)
 
-    pub unary-advances : 4 ≤ kind → kind < 6 → {a : Valued} {m : List ℕ} → Steps p memory (getD types 0 0) (at + 1) cell fresh a m
-        → {v : Value} → v ≡ unaryValue (unaryOf kind) (a .value)
-        → Advances p fresh (record { value = v; next = a .next; cell = a .cell }) m
+    pub unary-advances : 4 ≤ kind → kind < 6 → {a : Advanced} {m : List ℕ} → Steps p memory (getD types 0 0) (at + 1) cell fresh a m
+        → {r : ℕ} → r ≡ unaryWord (unaryOf kind) (a .word)
+        → Advances p fresh (record { next = a .next; word = r; cell = a .cell }) m
     unary-advances low high ha is =
         let w = unary-view here types e low high in
         let a = one-step p w ha in
-        finish (w .ends) (is ∙ rw (a .answer) (sym (unary-value here fresh w))) (ap (λ x. x .next) (a .answer))
-        (ap (λ x. x .cell) (a .answer)) (a .reached .holds) (sym (unary-stored w))
+        finish (unary-gives here fresh types e low high (a .answer) is) (a .reached .holds) (unary-stored w)
 
-    pub binary-advances : 6 ≤ kind → kind < 12 → {a b : Valued} {m m′ : List ℕ}
+    pub binary-advances : 6 ≤ kind → kind < 12 → {a b : Advanced} {m m′ : List ℕ}
         → Steps p memory (getD types 0 0) (at + 1) cell fresh a m → Steps p m (getD types 1 0) (a .next) (a .cell) fresh b m′
-        → {v : Value} → v ≡ binaryValue (binaryOf kind) (a .value) (b .value)
-        → Advances p fresh (record { value = v; next = b .next; cell = b .cell }) m′
+        → {r : ℕ} → r ≡ binaryWord (binaryOf kind) (a .word) (b .word)
+        → Advances p fresh (record { next = b .next; word = r; cell = b .cell }) m′
     binary-advances low high ha hb is =
         let w = binary-view here types e low high in
         let a = two-step p w ha in
         let b = two-step-2 p w ha hb in
-        finish (w .ends) (is ∙ rw (a .answer, b .answer) (sym (binary-value here fresh w))) (ap (λ x. x .next) (b .answer))
-        (ap (λ x. x .cell) (b .answer)) (b .reached .holds) (sym (binary-stored w))
+        finish (binary-gives here fresh types e low high (a .answer) (b .answer) is) (b .reached .holds) (binary-stored w)
 
   module _ (of : kind ≡ 12) where
-    pub conditional-advances : {c a b : Valued} {m m′ m″ : List ℕ} → Steps p memory 0 (at + 1) cell fresh c m
+    pub conditional-advances : {c a b : Advanced} {m m′ m″ : List ℕ} → Steps p memory 0 (at + 1) cell fresh c m
         → Steps p m asked (c .next) (c .cell) fresh a m′ → Steps p m′ asked (a .next) (a .cell) fresh b m″
-        → {v : Value} → v ≡ whenKnown (c .value) (λ t. chosen conditional (truth t) (a .value) (b .value))
-        → Advances p fresh (record { value = v; next = b .next; cell = b .cell }) m″
+        → {r : ℕ} → r ≡ cond (eqb (c .word) 1) (a .word) (b .word)
+        → Advances p fresh (record { next = b .next; word = r; cell = b .cell }) m″
     conditional-advances hc ha hb is =
         let w = conditional-view here of in
         let c = three-step p w hc in
         let a = three-step-2 p w hc ha in
         let b = three-step-3 p w hc ha hb in
-        finish (w .ends) (is ∙ rw (c .answer, a .answer, b .answer) (sym (choose-value here fresh w))) (ap (λ x. x .next) (b .answer))
-        (ap (λ x. x .cell) (b .answer)) (b .reached .holds) (rw append-assoc (sym (choose-stored w)))
+        finish (conditional-gives here fresh of (c .answer) (a .answer) (b .answer) is) (b .reached .holds)
+        (choose-stored w ∙ rw append-assoc)
 
-  module _ (of : kind ≡ 13) {c : Valued} {m : List ℕ} (hc : Steps p memory 0 (at + 1) cell fresh c m) where
+  module _ (of : kind ≡ 13) {c : Advanced} {m : List ℕ} (hc : Steps p memory 0 (at + 1) cell fresh c m) where
     abbrev shown : Three here 0 asked asked (at + 1) cell (choose present)
     shown = present-view here of
 
-    pub present-advances-first : isTrue (c .value) ≡ true → {a : Valued} {b : Skipped} {m′ m″ : List ℕ}
+    pub present-advances-first : c .word ≡ 1 → {a : Advanced} {b : Skipped} {m′ m″ : List ℕ}
         → Steps p m asked (c .next) (c .cell) fresh a m′ → Stays p m′ (a .next) (a .cell) fresh b m″
-        → Advances p fresh (record { value = a .value; next = b .next; cell = b .cell }) m″
-    present-advances-first true-there ha hb =
+        → Advances p fresh (record { next = b .next; word = a .word; cell = b .cell }) m″
+    present-advances-first holds ha hb =
         let c = three-step p shown hc in
         let a = three-step-2 p shown hc ha in
         let b = three-rest-3 p shown hc ha hb in
-        let holds = rw (c .answer) at true-there in
-        let v = first-chosen here fresh shown holds in
-        finish (shown .ends) (ap (λ x. x .value) (a .answer) ∙ sym v) (ap (λ x. x .next) (b .answer)) (ap (λ x. x .cell) (b .answer))
-        (b .reached .holds) (sym (choose-stored shown ∙ rw (holds, append-assoc)))
+        finish (present-gives-first here fresh of (c .answer) holds (a .answer) (by-walk here (shown .third) (b .answer)))
+        (b .reached .holds) (choose-stored shown ∙ rw (word-true (c .answer), holds, append-assoc))
 
-    pub present-advances-second : isTrue (c .value) ≡ false → {a : Skipped} {b : Valued} {m′ m″ : List ℕ}
-        → Stays p m (c .next) (c .cell) fresh a m′ → Steps p m′ asked (a .next) (a .cell) fresh b m″
-        → {v : Value} → v ≡ whenKnown (c .value) (λ t. b .value)
-        → Advances p fresh (record { value = v; next = b .next; cell = b .cell }) m″
-    present-advances-second false-there ha hb is =
-        let c = three-step p shown hc in
+    pub present-advances-second : (c .word ≡ 1 → ⊥) → {a : Skipped} {b : Advanced} {m′ m″ : List ℕ}
+        → Stays p m (c .next) (c .cell) fresh a m′ → Steps p m′ asked (a .next) (a .cell) fresh b m″ → Advances p fresh b m″
+    present-advances-second fails ha hb =
+        let s = three-step p shown hc in
         let a = three-rest-2 p shown hc ha in
         let b = rest-step-3 p shown hc ha hb in
-        let fails = rw (c .answer) at false-there in
-        let v = choose-value here fresh shown in
-        let other = present-else (operandValue here fresh (shown .first)) (operandValue here fresh (shown .second))
-        (operandValue here fresh (shown .third)) fails in
-        finish (shown .ends) (is ∙ rw (c .answer, b .answer) (other ∙ sym v)) (ap (λ x. x .next) (b .answer))
-        (ap (λ x. x .cell) (b .answer)) (b .reached .holds) (sym (choose-stored shown ∙ rw (fails, append-assoc)))
+        finish (present-gives-second here fresh of (s .answer) fails (b .answer)) (b .reached .holds)
+        (choose-stored shown ∙ rw (word-true (s .answer), ne-eqb (c .word) 1 fails, append-assoc))
 
   module _ (of : kind ≡ 14) where
-    pub reset-advances : {c a : Valued} {m m′ : List ℕ} → Steps p memory 0 (at + 1) cell fresh c m
-        → {fires : Bool} → fires ≡ isTrue (c .value) → Steps p m asked (c .next) (c .cell) (fires || fresh) a m′
-        → {v : Value} → v ≡ whenKnown (c .value) (λ t. a .value)
-        → Advances p fresh (record { value = v; next = a .next; cell = a .cell }) m′
-    reset-advances hc fires ha is =
+    pub reset-advances : {c a : Advanced} {m m′ : List ℕ} → Steps p memory 0 (at + 1) cell fresh c m
+        → Steps p m asked (c .next) (c .cell) (eqb (c .word) 1 || fresh) a m′ → Advances p fresh a m′
+    reset-advances hc ha =
         let w = reset-view here of in
         let c = two-step p w hc in
         let a = two-step-2 p w hc ha in
-        let under = reset-under (operandValue here fresh (w .first)) (λ t. operandValue here (t || fresh) (w .second)) in
-        finish (w .ends) (is ∙ rw (a .answer, fires, c .answer) (under ∙ sym (reset-value here fresh w))) (ap (λ x. x .next) (a .answer))
-        (ap (λ x. x .cell) (a .answer)) (a .reached .holds) (rw (fires, c .answer) (sym (reset-stored w)))
+        finish (reset-gives here fresh of (c .answer) (a .answer)) (a .reached .holds) (reset-stored w ∙ rw (word-true (c .answer)))
 
-  -- the cell that the code read is the instant's
-  own-kept : {before : Cell} → 15 ≤ kind → before ≡ readCell (typeOfByte asked) memory cell → before ≡ cellAt (here .now .memory) cell
-  own-kept low is = is ∙ own-cell here low .reads
-
-  pub pre-advances : 15 ≤ kind → kind < 17 → {body size : ℕ} → body ≡ bodyAt sheet at → size ≡ bodyOf kind
-      → {constant datum : Datum} {before : Cell} → constant ≡ datumOf (typeOfByte asked) body
-      → before ≡ readCell (typeOfByte asked) memory cell → datum ≡ heldOr constant (cond fresh (Started constant) before)
-      → {a : Valued} {m m′ : List ℕ} → Steps p memory asked (at + 1 + size) (cell + 1) fresh a m
-      → {d : Datum} → d ≡ datumIn (a .value) → m′ ≡ sets m (5 * cell) (cellBytes (Started d))
-      → Advances p fresh (record { value = Known datum; next = a .next; cell = a .cell }) m′
-  unfolding value
-  pre-advances low high reads sized {datum = datum} means was held {a = r} {m} {m′} ha {d} is put =
+  pub pre-advances : (low : 15 ≤ kind) (high : kind < 17) {size word : ℕ} → size ≡ bodyOf kind
+      → word ≡ preWord sheet memory at cell fresh
+      → {a : Advanced} {m m′ : List ℕ} → Steps p memory asked (at + 1 + size) (cell + 1) fresh a m
+      → {d : Datum} → d ≡ datumOf (typeOfByte asked) (a .word) → m′ ≡ sets m (5 * cell) (cellBytes (Started d))
+      → Advances p fresh (record { next = a .next; word = word; cell = a .cell }) m′
+  pre-advances low high sized yields {a = r} {m} ha {d} is put =
       let w = pre-view here low high in
       let a = one-step p w (subst (λ (n : ℕ). Steps p memory asked (at + 1 + n) (cell + 1) fresh r m) sized ha) in
-      let v : wholeValue here fresh ≡ Known datum =
-      ap (λ e. value (here .now) fresh e cell) (w .ends .tree) ∙ rw (held, own-kept low was, means, reads) in
-      finish (w .ends) (sym v) (ap (λ x. x .next) (a .answer)) (ap (λ x. x .cell) (a .answer)) (put-first p (Started d) (a .reached) put)
-      (rw (is, a .answer) (sym (pre-stored w)))
+      finish (pre-gives here fresh low high yields (by-value here (a .answer))) (put-first p (Started d) (a .reached) put)
+      (pre-stored w ∙ rw (word-datum (a .answer), is))
 
   module _ (of : kind ≡ 17) where
-    pub fby-advances : {before seen : Cell} → before ≡ readCell (typeOfByte asked) memory cell → seen ≡ cond fresh NotStarted before
-        → {a b : Valued} {m m′ m″ : List ℕ} → Steps p memory asked (at + 1) (cell + 1) fresh a m
+    -- the word of the cell where the place sees it started, and else that of the left side
+    fby-gives : {v n j m i : ℕ} → Gives (placed here (fby-view here of .first)) fresh v n j → Ended here (fby-view here of .second) m i
+        → Gives here fresh (cond (isSeen fresh memory cell) (cellWordAt memory cell) v) m i
+    fby-gives {v} {m = m} {i} g e = by (isSeen fresh memory cell) refl
+      where
+        by : (seen : Bool) → isSeen fresh memory cell ≡ seen → Gives here fresh (cond seen (cellWordAt memory cell) v) m i
+        by true is = fby-gives-cell here fresh of is e
+        by false is = fby-gives-left here fresh of is g e
+
+    pub fby-advances : {seen : Bool} {kept : ℕ} → seen ≡ isSeen fresh memory cell → kept ≡ cellWordAt memory cell
+        → {a b : Advanced} {m m′ m″ : List ℕ} → Steps p memory asked (at + 1) (cell + 1) fresh a m
         → Steps p m asked (a .next) (a .cell) fresh b m′
-        → {d : Datum} → d ≡ datumIn (b .value) → m″ ≡ sets m′ (5 * cell) (cellBytes (Started d)) → {v : Value} → v ≡ knownOr (a .value) seen
-        → Advances p fresh (record { value = v; next = b .next; cell = b .cell }) m″
-    fby-advances was sees ha hb {d} is put yields =
+        → {d : Datum} → d ≡ datumOf (typeOfByte asked) (b .word) → m″ ≡ sets m′ (5 * cell) (cellBytes (Started d))
+        → {r : ℕ} → r ≡ cond seen kept (a .word) → Advances p fresh (record { next = b .next; word = r; cell = b .cell }) m″
+    fby-advances sees keeps ha hb {d} is put yields =
         let w = fby-view here of in
         let a = two-step p w ha in
         let b = two-step-2 p w ha hb in
-        let v = fby-value here fresh w in
-        finish (w .ends) (yields ∙ rw (a .answer, sees, own-kept (omega arith) was) (sym v)) (ap (λ x. x .next) (b .answer))
-        (ap (λ x. x .cell) (b .answer)) (put-first p (Started d) (b .reached) put) (rw (is, b .answer) (sym (fby-stored w)))
+        finish (rw (yields, sees, keeps) (fby-gives (a .answer) (by-value here (b .answer)))) (put-first p (Started d) (b .reached) put)
+        (fby-stored w ∙ rw (word-datum (b .answer), is))

@@ -14,18 +14,18 @@ use Rattle.sheet.specs.Laws.Memory.{memory-length}
 use Rattle.sheet.specs.declared.Cell.{Cell}
 use Rattle.sheet_walk.specs.declared.skip.Skipped.{Skipped}
 use Rattle.kernel.specs.Instant.{kept, stored}
-use Rattle.expression.specs.Places.{CellsStand, valuedOf}
-use Rattle.expression.specs.declared.Valued.{Valued}
+use Rattle.expression.specs.Places.{CellsStand, Gives}
 use Rattle.expression.proofs.Views.{Operand, placed, readable, operand-counted, One, Two, Three}
 use Rattle.storing.specs.Advances.{Ready, Advances, Arm, Rests}
+use Rattle.storing.specs.declared.advance.Advanced.{Advanced}
 use Rattle.storing.proofs.Splices.{sets-turned}
 use Rattle.storing.proofs.Standing.{cells-past, cell-length, memory-append, kept-length, stored-length}
 
-module _ {sheet row memory words : List ℕ} {bits level asked at cell : ℕ}
-    (p : Ready sheet row memory words bits level asked at cell) where
+module _ {sheet memory words : List ℕ} {level asked at cell : ℕ}
+    (p : Ready sheet memory words level asked at cell) where
   -- what a call answers at a place, in a memory m that it leaves as m′
-  abbrev pub Steps : (m : List ℕ) (t a k : ℕ) → Bool → Valued → (m′ : List ℕ) → Type 0
-  Steps m t a k f r m′ = (o : Ready sheet row m words bits (level - 1) t a k) → Advances o f r m′
+  abbrev pub Steps : (m : List ℕ) (t a k : ℕ) → Bool → Advanced → (m′ : List ℕ) → Type 0
+  Steps m t a k f r m′ = (o : Ready sheet m words (level - 1) t a k) → Advances o f r m′
 
   abbrev pub Stays : (m : List ℕ) (a k : ℕ) → Bool → Skipped → (m′ : List ℕ) → Type 0
   Stays m a k f r m′ = (o : Arm sheet m a k) → Rests o f r m′
@@ -58,8 +58,8 @@ module _ {sheet row memory words : List ℕ} {bits level asked at cell : ℕ}
 
   -- the operand advanced or rested, and its cells are put behind those
   module _ (first : ℕ) (cs : List Cell) {t a k : ℕ} (o : Operand (p .place) t a k) (f : Bool) where
-    pub record Advanced (v : Valued) (m : List ℕ) : Type 0 where
-      pub answer : v ≡ valuedOf (placed (p .place) o) f
+    pub record Stepped (v : Advanced) (m : List ℕ) : Type 0 where
+      pub answer : Gives (placed (p .place) o) f (v .word) (v .next) (v .cell)
       pub reached : Reached first (o .count) (cs ++ operandStored f o) m
 
     pub record Rested (v : Skipped) (m : List ℕ) : Type 0 where
@@ -73,8 +73,9 @@ module _ {sheet row memory words : List ℕ} {bits level asked at cell : ℕ}
         rw (b .reached .holds)
         (cells-past (memoryBytes cs) (5 * first) (omega (arith, memory-length cs, b .reached .counted)) (o .cells))
 
-    standing : Ready sheet row m words bits (level - 1) t a k
+    standing : Ready sheet m words (level - 1) t a k
     standing = record {
+      bits = p .bits;
       place = record {
         inputs = p .place .inputs;
         wires = p .place .wires;
@@ -86,11 +87,12 @@ module _ {sheet row memory words : List ℕ} {bits level asked at cell : ℕ}
         stands = p .place .stands;
         cells = still;
       };
+      full = p .full;
       within = omega (arith, b .inside, p .within);
       room = omega (arith, b .inside, p .room, reached-length (b .reached));
     }
 
-    pub ready : Ready sheet row m words bits (level - 1) t n j
+    pub ready : Ready sheet m words (level - 1) t n j
     ready = rw (b .next, b .count) standing
 
     standing-arm : Arm sheet m a k
@@ -119,11 +121,15 @@ module _ {sheet row memory words : List ℕ} {bits level asked at cell : ℕ}
     among : k + cellCount (o .tree) ≤ length (p .place .now .memory)
     among = omega (arith, operand-counted (p .place) o, b .inside, p .within)
 
-    pub advanced : {f : Bool} {v : Valued} {m′ : List ℕ} → Steps m t n j f v m′ → Advanced first cs o f v m′
+    pub advanced : {f : Bool} {v : Advanced} {m′ : List ℕ} → Steps m t n j f v m′ → Stepped first cs o f v m′
     unfolding standing
     advanced {f} {v} {m′} h =
         let s = subst (λ (x : ℕ). Steps m t a x f v m′) (b .count) (subst (λ (x : ℕ). Steps m t x j f v m′) (b .next) h) standing in
-        record { answer = s .answer; reached = onward _ (stored-length (p .place .now) f (o .tree) k among) (s .holds) }
+        let g = s .answer in
+        record {
+          answer = record { value = g .value; next = g .next; count = g .count };
+          reached = onward _ (stored-length (p .place .now) f (o .tree) k among) (s .holds);
+        }
 
     pub rested : {f : Bool} {v : Skipped} {m′ : List ℕ} → Stays m n j f v m′ → Rested first cs o f v m′
     unfolding standing-arm
@@ -134,10 +140,9 @@ module _ {sheet row memory words : List ℕ} {bits level asked at cell : ℕ}
   -- the operand behind it
   module _ {first : ℕ} {cs : List Cell} {t a k : ℕ} (o : Operand (p .place) t a k) {f : Bool} {m : List ℕ} {u : ℕ}
       (o′ : Operand (p .place) u (o .next) (o .count)) (inside : o′ .count ≤ p .place .count) where
-    behind-advanced : {v : Valued} → Advanced first cs o f v m
+    behind-advanced : {v : Advanced} → Stepped first cs o f v m
         → Behind first (cs ++ operandStored f o) m o′ (v .next) (v .cell)
-    behind-advanced s =
-        record { reached = s .reached; inside = inside; next = ap (λ x. x .next) (s .answer); count = ap (λ x. x .cell) (s .answer) }
+    behind-advanced s = record { reached = s .reached; inside = inside; next = s .answer .next; count = s .answer .count }
 
     behind-rested : {v : Skipped} → Rested first cs o f v m
         → Behind first (cs ++ operandKept f o) m o′ (v .next) (v .cell)
@@ -158,10 +163,10 @@ module _ {sheet row memory words : List ℕ} {bits level asked at cell : ℕ}
   one-begins w = record { reached = unmoved; inside = omega (arith, w .ends .count); next = refl; count = refl }
 
   module _ {t a k : ℕ} {g : Expression → Expression} (w : One (p .place) t a k g) where
-    pub one-ready : Ready sheet row memory words bits (level - 1) t a k
+    pub one-ready : Ready sheet memory words (level - 1) t a k
     one-ready = ready (w .first) (one-begins w)
 
-    pub one-step : {f : Bool} {v : Valued} {m : List ℕ} → Steps memory t a k f v m → Advanced k [] (w .first) f v m
+    pub one-step : {f : Bool} {v : Advanced} {m : List ℕ} → Steps memory t a k f v m → Stepped k [] (w .first) f v m
     one-step h = advanced (w .first) (one-begins w) h
 
   two-begins : {t u a k : ℕ} {g : Expression → Expression → Expression} (w : Two (p .place) t u a k g)
@@ -174,21 +179,21 @@ module _ {sheet row memory words : List ℕ} {bits level asked at cell : ℕ}
   }
 
   module _ {t u a k : ℕ} {g : Expression → Expression → Expression} (w : Two (p .place) t u a k g) where
-    pub two-ready : Ready sheet row memory words bits (level - 1) t a k
+    pub two-ready : Ready sheet memory words (level - 1) t a k
     two-ready = ready (w .first) (two-begins w)
 
-    module _ {f : Bool} {v : Valued} {m : List ℕ} (h : Steps memory t a k f v m) where
-      pub two-step : Advanced k [] (w .first) f v m
+    module _ {f : Bool} {v : Advanced} {m : List ℕ} (h : Steps memory t a k f v m) where
+      pub two-step : Stepped k [] (w .first) f v m
       two-step = advanced (w .first) (two-begins w) h
 
       two-follows : Behind k (operandStored f (w .first)) m (w .second) (v .next) (v .cell)
       two-follows = behind-advanced (w .first) (w .second) (omega (arith, w .ends .count)) two-step
 
-      pub two-ready-2 : Ready sheet row m words bits (level - 1) u (v .next) (v .cell)
+      pub two-ready-2 : Ready sheet m words (level - 1) u (v .next) (v .cell)
       two-ready-2 = ready (w .second) two-follows
 
-      pub two-step-2 : {f′ : Bool} {x : Valued} {m′ : List ℕ} → Steps m u (v .next) (v .cell) f′ x m′
-          → Advanced k (operandStored f (w .first)) (w .second) f′ x m′
+      pub two-step-2 : {f′ : Bool} {x : Advanced} {m′ : List ℕ} → Steps m u (v .next) (v .cell) f′ x m′
+          → Stepped k (operandStored f (w .first)) (w .second) f′ x m′
       two-step-2 h′ = advanced (w .second) two-follows h′
 
   three-begins : {t u s a k : ℕ} {g : Expression → Expression → Expression → Expression} (w : Three (p .place) t u s a k g)
@@ -201,38 +206,38 @@ module _ {sheet row memory words : List ℕ} {bits level asked at cell : ℕ}
   }
 
   module _ {t u s a k : ℕ} {g : Expression → Expression → Expression → Expression} (w : Three (p .place) t u s a k g) where
-    pub three-ready : Ready sheet row memory words bits (level - 1) t a k
+    pub three-ready : Ready sheet memory words (level - 1) t a k
     three-ready = ready (w .first) (three-begins w)
 
-    module _ {f : Bool} {c : Valued} {m : List ℕ} (h : Steps memory t a k f c m) where
-      pub three-step : Advanced k [] (w .first) f c m
+    module _ {f : Bool} {c : Advanced} {m : List ℕ} (h : Steps memory t a k f c m) where
+      pub three-step : Stepped k [] (w .first) f c m
       three-step = advanced (w .first) (three-begins w) h
 
       three-follows : Behind k (operandStored f (w .first)) m (w .second) (c .next) (c .cell)
       three-follows =
           behind-advanced (w .first) (w .second) (omega (arith, w .ends .count, operand-counted (p .place) (w .third))) three-step
 
-      pub three-ready-2 : Ready sheet row m words bits (level - 1) u (c .next) (c .cell)
+      pub three-ready-2 : Ready sheet m words (level - 1) u (c .next) (c .cell)
       three-ready-2 = ready (w .second) three-follows
 
       pub three-arm-2 : Arm sheet m (c .next) (c .cell)
       three-arm-2 = arm (w .second) three-follows
 
-      module _ {f′ : Bool} {v : Valued} {m′ : List ℕ} (h′ : Steps m u (c .next) (c .cell) f′ v m′) where
-        pub three-step-2 : Advanced k (operandStored f (w .first)) (w .second) f′ v m′
+      module _ {f′ : Bool} {v : Advanced} {m′ : List ℕ} (h′ : Steps m u (c .next) (c .cell) f′ v m′) where
+        pub three-step-2 : Stepped k (operandStored f (w .first)) (w .second) f′ v m′
         three-step-2 = advanced (w .second) three-follows h′
 
         three-last : Behind k (operandStored f (w .first) ++ operandStored f′ (w .second)) m′ (w .third) (v .next) (v .cell)
         three-last = behind-advanced (w .second) (w .third) (omega (arith, w .ends .count)) three-step-2
 
-        pub three-ready-3 : Ready sheet row m′ words bits (level - 1) s (v .next) (v .cell)
+        pub three-ready-3 : Ready sheet m′ words (level - 1) s (v .next) (v .cell)
         three-ready-3 = ready (w .third) three-last
 
         pub three-arm-3 : Arm sheet m′ (v .next) (v .cell)
         three-arm-3 = arm (w .third) three-last
 
-        pub three-step-3 : {f″ : Bool} {x : Valued} {m″ : List ℕ} → Steps m′ s (v .next) (v .cell) f″ x m″
-            → Advanced k (operandStored f (w .first) ++ operandStored f′ (w .second)) (w .third) f″ x m″
+        pub three-step-3 : {f″ : Bool} {x : Advanced} {m″ : List ℕ} → Steps m′ s (v .next) (v .cell) f″ x m″
+            → Stepped k (operandStored f (w .first) ++ operandStored f′ (w .second)) (w .third) f″ x m″
         three-step-3 h″ = advanced (w .third) three-last h″
 
         pub three-rest-3 : {f″ : Bool} {x : Skipped} {m″ : List ℕ} → Stays m′ (v .next) (v .cell) f″ x m″
@@ -246,9 +251,9 @@ module _ {sheet row memory words : List ℕ} {bits level asked at cell : ℕ}
         rest-last : Behind k (operandStored f (w .first) ++ operandKept f′ (w .second)) m′ (w .third) (v .next) (v .cell)
         rest-last = behind-rested (w .second) (w .third) (omega (arith, w .ends .count)) three-rest-2
 
-        pub rest-ready-3 : Ready sheet row m′ words bits (level - 1) s (v .next) (v .cell)
+        pub rest-ready-3 : Ready sheet m′ words (level - 1) s (v .next) (v .cell)
         rest-ready-3 = ready (w .third) rest-last
 
-        pub rest-step-3 : {f″ : Bool} {x : Valued} {m″ : List ℕ} → Steps m′ s (v .next) (v .cell) f″ x m″
-            → Advanced k (operandStored f (w .first) ++ operandKept f′ (w .second)) (w .third) f″ x m″
+        pub rest-step-3 : {f″ : Bool} {x : Advanced} {m″ : List ℕ} → Steps m′ s (v .next) (v .cell) f″ x m″
+            → Stepped k (operandStored f (w .first) ++ operandKept f′ (w .second)) (w .third) f″ x m″
         rest-step-3 h″ = advanced (w .third) rest-last h″

@@ -1,29 +1,32 @@
 -- What an expression that advances or rests asks for, and what it leaves.
-use Prim.Native.Nat.{ℕ, _*_, _≤_}
+use Prim.Native.Nat.{ℕ, _*_, _≤_, _<_}
 use mathlib.Core.Path.{_≡_}
-use mathlib.Core.Bool.{Bool}
+use mathlib.Core.Bool.{Bool, true}
 use mathlib.Core.List.{List}
 use lib.ListN.{length}
 use lib.Seq.{sets}
+use Rattle.wires.specs.Sets.{member}
 use Rattle.sheet.specs.Expressions.{cellForms}
 use Rattle.sheet.specs.Memory.{memoryBytes, startMemory}
 use Rattle.sheet_walk.specs.Skips.{Readable}
 use Rattle.sheet_walk.specs.declared.skip.Skipped.{Skipped}
 use Rattle.kernel.specs.Instant.{Environment, kept}
-use Rattle.expression.specs.Places.{CellsStand, Placement, valuedOf, storedBytes}
-use Rattle.expression.specs.declared.Valued.{Valued}
+use Rattle.expression.specs.Places.{CellsStand, Placement, Gives, storedBytes}
+use Rattle.storing.specs.declared.advance.Advanced.{Advanced}
 
--- an expression that stands somewhere, and whose cells are among those of the instant, so that an arm keeps as many as it has, and
--- have room in the memory
-pub record Ready (sheet input memory words : List ℕ) (bits level asked at cell : ℕ) : Type 0 where
-  pub place : Placement sheet input memory words bits level asked at cell
+-- an expression that stands somewhere under wires that are all known, and whose cells are among those of the instant, so that an arm
+-- keeps as many as it has, and have room in the memory
+pub record Ready (sheet memory words : List ℕ) (level asked at cell : ℕ) : Type 0 where
+  pub bits : ℕ
+  pub place : Placement sheet memory words bits level asked at cell
+  pub full : (w : ℕ) → w < length (place .wires) → member bits w ≡ true
   pub within : place .count ≤ length (place .now .memory)
   pub room : 5 * place .count ≤ length memory
 
--- it has its value, and its cells are stored in place
-pub record Advances {sheet input memory words : List ℕ} {bits level asked at cell : ℕ}
-    (p : Ready sheet input memory words bits level asked at cell) (fresh : Bool) (r : Valued) (after : List ℕ) : Type 0 where
-  pub answer : r ≡ valuedOf (p .place) fresh
+-- its value is known, and its cells are stored in place
+pub record Advances {sheet memory words : List ℕ} {level asked at cell : ℕ}
+    (p : Ready sheet memory words level asked at cell) (fresh : Bool) (r : Advanced) (after : List ℕ) : Type 0 where
+  pub answer : Gives (p .place) fresh (r .word) (r .next) (r .cell)
   pub holds : after ≡ sets memory (5 * cell) (storedBytes (p .place) fresh)
 
 -- an expression whose cells have room in so many bytes

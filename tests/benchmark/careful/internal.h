@@ -1,45 +1,12 @@
-/* What the files of careful C share: the shapes of the kinds, the nodes of a sheet, and what an instant has at hand. Rests on nothing but
- * document 01.
+/* What the files of careful C share: the shapes of the kinds, the nodes of a sheet, and what an instant has at hand. Rests on the
+ * format in numbers.
  */
 #ifndef CAREFUL_INTERNAL_H
 #define CAREFUL_INTERNAL_H
 
+#include "common/format.h"
+
 #include <stdbool.h>
-#include <stddef.h>
-#include <stdint.h>
-
-enum {
-    longest_sheet = 4096,
-    most_inputs = 16,
-    most_wires = 64,
-    most_outputs = 16,
-    most_cells = 64,
-    deepest_level = 16,
-    bytes_of_number = 4,
-    bytes_of_cell = 5
-};
-
-enum kind {
-    kind_boolean,
-    kind_number,
-    kind_wire,
-    kind_input,
-    kind_not,
-    kind_negate,
-    kind_and,
-    kind_or,
-    kind_add,
-    kind_subtract,
-    kind_less,
-    kind_equal,
-    kind_if,
-    kind_present,
-    kind_reset,
-    kind_boolean_pre,
-    kind_number_pre,
-    kind_fby,
-    kinds
-};
 
 /* How an expression stands: its level in the lowest five bits, whether it is delayed, that is under a pre or on the right of an fby, which
  * link of its parent is to lead to it, where a first operand needs none; and the type asked of it, above what a node keeps of this. */
@@ -118,24 +85,6 @@ struct instant {
     uint32_t wires[most_wires];
     uint32_t inputs[most_inputs];
 };
-
-static inline uint32_t refusal(uint32_t number, size_t place)
-{
-    return number * 65536u + (uint32_t)place;
-}
-
-static inline uint32_t read_number(const uint8_t *bytes)
-{
-    return (uint32_t)bytes[0] | (uint32_t)bytes[1] << 8 | (uint32_t)bytes[2] << 16 | (uint32_t)bytes[3] << 24;
-}
-
-static inline void write_number(uint8_t *bytes, uint32_t number)
-{
-    bytes[0] = (uint8_t)(number & 255u);
-    bytes[1] = (uint8_t)(number >> 8 & 255u);
-    bytes[2] = (uint8_t)(number >> 16 & 255u);
-    bytes[3] = (uint8_t)(number >> 24);
-}
 
 /* ---- reading.c ---- */
 

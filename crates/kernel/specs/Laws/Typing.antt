@@ -63,11 +63,11 @@ unfolding ValidFrom
 valid-from-start done = tt
 valid-from-start (_then_ {y = c} {xs = fs} {ys = cs} p ps) = (omega arith, p, tail-valid cs c fs 0 (valid-from-start ps))
 
-unary-type : (o : Unary) (d : Datum) → IsOf (unaryType o) (applyUnary o d)
+pub unary-type : (o : Unary) (d : Datum) → IsOf (unaryType o) (applyUnary o d)
 unary-type negation d = tt
 unary-type negative d = settled-fits (negℤ (amount d))
 
-binary-type : (o : Binary) (d e : Datum) → IsOf (resultType o) (applyBinary o d e)
+pub binary-type : (o : Binary) (d e : Datum) → IsOf (resultType o) (applyBinary o d e)
 binary-type conjunction d e = tt
 binary-type disjunction d e = tt
 binary-type sum d e = settled-fits (amount d +ℤ amount e)

@@ -1,22 +1,24 @@
 -- `finish` meets its contract. The loop's invariant: so many rounds were made, each of which changed something, and the next one comes
 -- to the same whether or not it goes over the wires that it is to pass over.
 use Prim.Native.Nat.{_-_, _≤_, _<_}
-use mathlib.Core.Path.{_≡_, sym, _∙_}
+use mathlib.Core.Path.{_≡_, refl, sym, _∙_}
 use native.Mathlib.Omega.{arith}
 use Rattle.wires.specs.Sets.{member, tally}
 use Rattle.wires.specs.Laws.{tally-bound}
+use Rattle.expression.specs.Places.{inputWords}
 use Rattle.rounds.specs.Running.{RunningReads}
-use Rattle.rounds.proofs.Finishing.{Rounded, unrounded, before, more-known, one-more, ended}
+use Rattle.rounds.proofs.Finishing.{Rounded, unrounded, before-here, more-known, one-more, ended}
 use Rattle.rounds.proofs.finish.Statement.{statement}
 use Rattle.rounds.proofs.finish.Tie as tie
 
 abbrev Inv-loop : tie.InvT-loop
-Inv-loop sheet memory input types places firsts reads words₀ known₀ passed₀ rounds₀ words known passed rounds =
+Inv-loop sheet memory types places firsts reads words₀ known₀ passed₀ rounds₀ words known passed rounds =
     (rounds ≤ tally (member (known .bits)) 64)
-    × ((run : RunningReads sheet memory input types places firsts reads) → Rounded run rounds (known .bits) (passed .bits) words)
+    × ((run : RunningReads sheet memory (inputWords words₀) types places firsts reads)
+    → Rounded run rounds (known .bits) (passed .bits) words)
 
 abbrev μ-loop : tie.MeasureT-loop
-μ-loop sheet memory input types places firsts reads words₀ known₀ passed₀ rounds₀ words known passed rounds =
+μ-loop sheet memory types places firsts reads words₀ known₀ passed₀ rounds₀ words known passed rounds =
     64 - tally (member (known .bits)) 64
 
 -- the counts of the two sets differ, so that the round knows more
@@ -30,7 +32,7 @@ grew : (c : tie.Else1 Inv-loop μ-loop)
     < tally (member (c .before .before .before .round .result .bits)) 64
 grew c =
     let loop = c .before .before .before .before .before in
-    let run = loop .before .before .before .before .before .before .before .pre .0 in
+    let run = loop .before .before .before .before .before .before .pre .0 in
     more-known run (loop .loop .inv .1 run) (c .before .before .before .round .ensures) (differ c)
 
 none-requires : tie.Need-none-requires Inv-loop μ-loop
@@ -41,13 +43,13 @@ none-requires-2 c κs = tt
 
 loop-holds : tie.Need-loop-holds Inv-loop μ-loop
 loop-holds c =
-    let room = c .before .before .before .before .before .before .pre .1 in
-    (omega arith, λ run. unrounded run room (c .before .none .ensures) (c .none2 .ensures))
+    let room = c .before .before .before .before .before .pre .1 in
+    (omega arith, λ run. unrounded run refl room (c .before .none .ensures) (c .none2 .ensures))
 
 round-requires : tie.Need-round-requires Inv-loop μ-loop
 round-requires c κs =
-    let run = c .before .before .before .before .before .before .before .before .pre .0 in
-    before run (c .before .loop .inv .1 run)
+    let run = c .before .before .before .before .before .before .before .pre .0 in
+    before-here run (c .before .loop .inv .1 run)
 
 add-made : tie.Need-add-made Inv-loop μ-loop
 add-made c = let l = c .before .before .loop in omega (arith, l .inv .0, tally-bound (member (l .known .bits)) 64)
@@ -70,7 +72,7 @@ minus-requires c κs = tt
 not-due-requires : tie.Need-not-due-requires Inv-loop μ-loop
 not-due-requires c κs =
     let loop = c .before .before .before .before .before .before in
-    loop .before .before .before .before .before .before .before .pre .0 .running .few
+    loop .before .before .before .before .before .before .pre .0 .running .few
 
 loop-less : tie.Need-loop-less Inv-loop μ-loop
 loop-less c =

@@ -5,18 +5,20 @@ use native.Mathlib.Omega.{arith}
 use borrow.Author.Needs.{needs}
 use Rattle.wires.specs.Sets.{member, LowestMissing}
 use Rattle.wires.specs.Laws.{lowest-missing-rises}
+use Rattle.expression.specs.Places.{inputWords}
 use Rattle.rounds.specs.Running.{Before}
 use Rattle.rounds.proofs.Rounding.{Midway, begun, placed, further, round-done}
 use Rattle.rounds.proofs.round.Statement.{statement}
 use Rattle.rounds.proofs.round.Tie as tie
 
 abbrev Inv-loop : tie.InvT-loop
-Inv-loop sheet t2 t3 types places firsts before words₀ memory input grown₀ seen₀ w₀ words grown seen w =
+Inv-loop sheet memory types places firsts before words₀ grown₀ seen₀ w₀ words grown seen w =
     LowestMissing (member (seen .bits)) 64 w
-    × ((b : Before sheet t2 t3 types places firsts (before .bits) (seen₀ .bits) words₀) → Midway b (seen .bits) (grown .bits) words)
+    × ((b : Before sheet memory (inputWords words₀) types places firsts (before .bits) (seen₀ .bits) words₀)
+    → Midway b (seen .bits) (grown .bits) words)
 
 abbrev μ-loop : tie.MeasureT-loop
-μ-loop sheet t2 t3 types places firsts before words₀ memory input grown₀ seen₀ w₀ words grown seen w = 64 - w
+μ-loop sheet memory types places firsts before words₀ grown₀ seen₀ w₀ words grown seen w = 64 - w
 
 lowest-missing-requires : tie.Need-lowest-missing-requires Inv-loop μ-loop
 lowest-missing-requires c κs = tt
@@ -31,37 +33,37 @@ mul-place : tie.Need-mul-place Inv-loop μ-loop
 mul-place c = search needs
 
 element-copy-out-place : tie.Need-element-copy-out-place Inv-loop μ-loop
-element-copy-out-place c = omega (arith, c .before .before .before .before .before .before .before .pre .running .few)
+element-copy-out-place c = omega (arith, c .before .before .before .before .before .before .pre .running .few)
 
 place-requires : tie.Need-place-requires Inv-loop μ-loop
 place-requires c κs = search needs
 
-element-copy-out-first : tie.Need-element-copy-out-first Inv-loop μ-loop
-element-copy-out-first c = omega (arith, c .before .before .before .before .before .before .before .before .before .pre .running .few)
+element-copy-out-length-of : tie.Need-element-copy-out-length-of Inv-loop μ-loop
+element-copy-out-length-of c = omega (arith, c .before .before .before .before .before .before .before .before .pre .running .few)
 
-first-requires : tie.Need-first-requires Inv-loop μ-loop
-first-requires c κs = search needs
+length-of-requires : tie.Need-length-of-requires Inv-loop μ-loop
+length-of-requires c κs = search needs
 
-shared-slice-read-value-expression : tie.Need-shared-slice-read-value-expression Inv-loop μ-loop
-shared-slice-read-value-expression c = omega arith
+shared-slice-read-value-of-wire : tie.Need-shared-slice-read-value-of-wire Inv-loop μ-loop
+shared-slice-read-value-of-wire c = omega arith
 
-value-expression-requires : tie.Need-value-expression-requires Inv-loop μ-loop
-value-expression-requires c κs =
-    let first = c .before .before .before .before in
+value-of-wire-requires : tie.Need-value-of-wire-requires Inv-loop μ-loop
+value-of-wire-requires c κs =
+    let first = c .before .before in
     let test = first .before .before .before .before in
-    let b = test .before .before .before .before .before .before .before .pre in
-    placed b (test .before .loop .inv .1 b) (test .loop-test .taken) (first .before .before .place .ensures) (first .first .ensures)
+    let b = test .before .before .before .before .before .before .pre in
+    placed b (test .before .loop .inv .1 b) (test .loop-test .taken) (first .before .before .place .ensures) (first .length-of .ensures .0)
 
 put-value-requires : tie.Need-put-value-requires Inv-loop μ-loop
 put-value-requires c κs =
-    let test = c .before .before .before .before .before .before .before .before .before .before in
-    let b = test .before .before .before .before .before .before .before .pre in
+    let test = c .before .before .before .before .before .before .before .before in
+    let b = test .before .before .before .before .before .before .pre in
     (omega (arith, b .running .few), omega (arith, b .running .few, test .before .loop .inv .1 b .holds .room))
 
 with-requires : tie.Need-with-requires Inv-loop μ-loop
 with-requires c κs =
-    let test = c .before .before .before .before .before .before .before .before .before .before .before in
-    omega (arith, test .before .before .before .before .before .before .before .pre .running .few)
+    let test = c .before .before .before .before .before .before .before .before .before in
+    omega (arith, test .before .before .before .before .before .before .pre .running .few)
 
 lowest-missing-requires-2 : tie.Need-lowest-missing-requires-2 Inv-loop μ-loop
 lowest-missing-requires-2 c κs = tt
@@ -71,23 +73,22 @@ cast-w-2 c = omega (arith, c .lowest-missing2 .ensures .within)
 
 loop-less : tie.Need-loop-less Inv-loop μ-loop
 loop-less c =
-    let test = c .before .before .before .before .before .before .before .before .before .before .before .before .before in
+    let test = c .before .before .before .before .before .before .before .before .before .before .before in
     let l = test .before .loop in
-    let few = test .before .before .before .before .before .before .before .pre .running .few in
-    let low : l .w < 64 = omega (arith, few, test .loop-test .taken) in
+    let low : l .w < 64 = omega (arith, test .before .before .before .before .before .before .pre .running .few, test .loop-test .taken) in
     omega (arith, low, lowest-missing-rises _ _ 64 _ _ (l .inv .0) low (c .before .with .ensures) (c .lowest-missing2 .ensures))
 
 loop-again : tie.Need-loop-again Inv-loop μ-loop
 loop-again c =
     let put = c .before .before in
     let valued = put .before .before in
-    let first = valued .before .before .before .before .before in
+    let first = valued .before .before .before in
     let test = first .before .before .before .before in
     let l = test .before .loop in
     let more = test .loop-test .taken in
-    let v = valued .value-expression in
+    let v = valued .value-of-wire in
     let at-is = first .before .before .place .ensures in
-    let cell-is = first .first .ensures in (
+    let cell-is = first .length-of .ensures .0 in (
       c .lowest-missing2 .ensures,
       λ b. let m = l .inv .1 b in
           further b m more (l .inv .0 .missing (omega (arith, b .running .few, more))) at-is cell-is (v .result)
@@ -109,10 +110,10 @@ round-spec =
     mul-place
     element-copy-out-place
     place-requires
-    element-copy-out-first
-    first-requires
-    shared-slice-read-value-expression
-    value-expression-requires
+    element-copy-out-length-of
+    length-of-requires
+    shared-slice-read-value-of-wire
+    value-of-wire-requires
     put-value-requires
     with-requires
     lowest-missing-requires-2

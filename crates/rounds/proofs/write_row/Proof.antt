@@ -53,7 +53,10 @@ mul-put-word-2 c = omega (arith, c .before .shared-slice-known2 .given (c .befor
 element-copy-out-put-word : tie.Need-element-copy-out-put-word Inv-loop μ-loop
 unfolding Below
 element-copy-out-put-word c =
-    c .before .before .before .before .before .before .pre .0 (c .before .before .before .loop .i) (c .before .before .loop-test .taken)
+    omega (
+      arith,
+      c .before .before .before .before .before .before .pre .0 (c .before .before .before .loop .i) (c .before .before .loop-test .taken),
+    )
 
 put-word-requires : tie.Need-put-word-requires Inv-loop μ-loop
 put-word-requires c κs =

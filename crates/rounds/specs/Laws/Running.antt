@@ -29,7 +29,7 @@ use Rattle.sheet.specs.Laws.Memory.{memory-view}
 use Rattle.sheet.specs.declared.Cell.{Cell}
 use Rattle.sheet.specs.declared.Cell.the-variants.{NotStarted, Started}
 use Rattle.sheet.specs.declared.Datum.the-variants.{Boolean}
-use Rattle.sheet_check.specs.Map.{StartsAt, HoldsJust, Sited, wiresOf, runOf}
+use Rattle.sheet_expressions.specs.Map.{StartsAt, HoldsJust, Sited, wiresOf, runOf}
 use Rattle.kernel.specs.Instant.{inputAt, cellAt}
 use Rattle.kernel.specs.Instants.{readsAt}
 use Rattle.kernel.specs.Calls.{Given, givenOf}
@@ -37,7 +37,7 @@ use Rattle.sheet.specs.Laws.Lists.{both}
 use Rattle.kernel.specs.Laws.Given.{given-by}
 use Rattle.kernel.specs.Laws.Memory.{given-valid}
 use Rattle.rounds.specs.Running.{Running}
-use Rattle.expression.specs.Places.{CellsStand, none, more}
+use Rattle.expression.specs.Places.{inputWords, InputsPut, CellsStand, none, more}
 
 abbrev pub Bytes : List ℕ → Type 0
 Bytes s = (i : ℕ) → getD s i 0 < 256
@@ -195,8 +195,26 @@ reads-of-tree [] w = refl
 reads-of-tree (e ∷ es) zero = refl
 reads-of-tree (e ∷ es) (suc w) = reads-of-tree es w
 
+-- an input's word is its entry
+entry-word : (input words : List ℕ) → InputsPut input words → (i : ℕ) → 4 * i + 4 ≤ length input
+    → getD (inputWords words) i 0 ≡ entryAt input i
+unfolding InputsPut
+entry-word input words put i l = rw getD-drop (put i l)
+
+-- a row that passed 14 has four bytes to an input, of which there are at most 16
+pub input-length : (s memory input output : List ℕ) (given : Given) → givenOf s memory input output ≡ result given → length input ≤ 64
+input-length s memory input output given e =
+    let by = given-by s memory input output given e in
+    let v = sheet-view s (passed-check s (by .sheet) .read) in
+    let good = section-good s 0 0 17 2 false TypeByte (v .inputs) in
+    let inputs = before s (v .inputsEnd) (v .inputCount) in
+    let types : given .sheet .inputTypes ≡ map typeOfByte inputs = ap (λ (x : Sheet). x .inputTypes) (v .is) in
+    let counted = ap length types ∙ length-map inputs typeOfByte ∙ section-length good in
+    omega (arith, input-view (given .sheet .inputTypes) input (by .inputs) .0, counted, good .below)
+
 -- where the parts of a sheet that passed the check stand in its bytes, by its counts
-module _ (s memory input output places firsts reads : List ℕ) (given : Given) (e : givenOf s memory input output ≡ result given)
+module _ (s memory input output places firsts reads words : List ℕ) (given : Given) (e : givenOf s memory input output ≡ result given)
+    (put : InputsPut input words)
     (drawn : (sheet : Sheet) (n k : ℕ) (v : SheetRead s sheet n k) → Sited (wiresOf v) places firsts reads) where
   abbrev inputCount : ℕ
   inputCount = length (given .sheet .inputTypes)
@@ -218,7 +236,7 @@ module _ (s memory input output places firsts reads : List ℕ) (given : Given) 
   firstOf = 3 + inputCount + wiresCount + outputCount
 
   pub record Parts : Type 0 where
-    pub running : Running s memory input typesOf places firsts
+    pub running : Running s memory (inputWords words) typesOf places firsts
     pub same : running .given ≡ given
     pub reading : (w : ℕ) → w < length typesOf → HoldsJust (getD reads w 0) (readsAt (given .sheet .expressions) w)
     pub outputs : given .sheet .outputs ≡ outputsOf
@@ -253,10 +271,14 @@ module _ (s memory input output places firsts reads : List ℕ) (given : Given) 
       let typesAre : typesOf ≡ types = ap₂ (λ (a b : ℕ). take a (drop b s)) nw at-types in
       let outputsAre : outputsOf ≡ outs = ap₂ (λ (a b : ℕ). take a (drop b s)) no at-outputs in
       let (sizedInput, row) = input-view (given .sheet .inputTypes) input (by .inputs) in
-      let entries : (i : ℕ) → i < length inputs → inputAt (given .inputs) i ≡ datumOf (typeOfByte (getD inputs i 0)) (entryAt input i) =
+      let counted : length input ≡ 4 * length inputs =
+      sizedInput ∙ ap (λ (k : ℕ). 4 * k) (ap length inputTypes ∙ length-map inputs typeOfByte) in
+      let entries : (i : ℕ) → i < length inputs
+      → inputAt (given .inputs) i ≡ datumOf (typeOfByte (getD inputs i 0)) (getD (inputWords words) i 0) =
       λ i l. let z : 0 + i ≡ i = omega arith in
       ap (λ (ds : List Datum). inputAt ds i) (row ∙ ap (dataFrom input 0) inputTypes)
-      ∙ row-at input inputs 0 i l ∙ ap (λ (k : ℕ). datumOf (typeOfByte (getD inputs i 0)) (entryAt input k)) z in
+      ∙ row-at input inputs 0 i l
+      ∙ ap (datumOf (typeOfByte (getD inputs i 0))) (ap (entryAt input) z ∙ sym (entry-word input words put i (omega (arith, counted)))) in
       record {
         running = record {
           given = given;
@@ -270,7 +292,7 @@ module _ (s memory input output places firsts reads : List ℕ) (given : Given) 
           inputTypes = inputTypes;
           wireTypes = rw typesAre wireTypes;
           few = rw typesAre (omega (arith, section-length gw, gw .below));
-          inputSize = sizedInput ∙ ap (λ (k : ℕ). 4 * k) (ap length inputTypes ∙ length-map inputs typeOfByte);
+          inputLimit = omega (arith, section-length gi, gi .below);
           onInputs = entries;
           memorySize = memory-view (sheetForms (given .sheet)) memory (by .cells) .sized;
           cells = memory-stands memory small (sheetForms (given .sheet)) (by .cells);

@@ -10,7 +10,7 @@ use borrow.Author.Count.{below-more}
 use borrow.Author.Needs.{needs}
 use Rattle.sheet.specs.Laws.Lowest.{lowest-is}
 use Rattle.kernel.specs.Schedules.{tooEarly}
-use Rattle.sheet_check.specs.Map.{HoldsJust}
+use Rattle.sheet_expressions.specs.Map.{HoldsJust}
 use Rattle.schedule.proofs.Ordering.{Holds, none-named, one-more-named, early}
 use Rattle.schedule.proofs.first_too_early.Statement.{statement}
 use Rattle.schedule.proofs.first_too_early.Tie as tie

@@ -7,9 +7,7 @@ use Rattle.sheet.specs.declared.Refusal.the-variants.{TypeByte}
 use Rattle.sheet.specs.Sheets.{before, wiresFrom, readSheet}
 use Rattle.sheet.specs.Laws.Headers.{SectionGood, section-good}
 use Rattle.sheet.specs.Laws.Readings.{not-good}
-use Rattle.sheet_check.proofs.Fields.{span}
-use Rattle.sheet_check.proofs.Noting.{section-types}
-use Rattle.sheet_check.proofs.Drawing.{sheet-mapped}
+use Rattle.sheet_check.proofs.Sections.{span, section-types, sheet-mapped}
 use borrow.Author.Needs.{needs}
 use Rattle.sheet_check.proofs.check_map.Statement.{statement}
 use Rattle.sheet_check.proofs.check_map.Tie as tie
@@ -70,14 +68,21 @@ part-wires-from-end c = ends c .bytes .within
 
 wires-from-requires : tie.Need-wires-from-requires
 wires-from-requires c κs =
-    let g = ends (c .before .before .before .before .before) in
-    (rw (span g) (section-types (omega arith) g), omega (arith, c .before .before .before .before .before .before .before .before .before .if2 .left), c .before .before .before .before .before .before .before .before .before .before .before .before .pre)
+    let g = ends (c .before .before .before .before .before) in (
+      rw (span g) (section-types (omega arith) g),
+      omega (arith, c .before .before .before .before .before .before .before .before .before .if2 .left),
+      c .before .before .before .before .before .before .before .before .before .before .before .before .pre,
+    )
 
 returns-3 : tie.Need-returns-3
 unfolding readSheet
 returns-3 c =
     let refused = sym (c .before .before .before .section .ensures) ∙ c .before .why .given .1 in (
-      simp (ne-eqb _ _ (c .before .before .before .before .before .if1 .left), le-ltb _ _ (c .before .before .before .before .if2 .left), refused),
+      simp (
+        ne-eqb _ _ (c .before .before .before .before .before .if1 .left),
+        le-ltb _ _ (c .before .before .before .before .if2 .left),
+        refused,
+      ),
       λ sheet n k v. not-good (sym refused ∙ v .inputs),
     )
 

@@ -3,8 +3,8 @@ use mathlib.Core.Path.{sym, _∙_}
 use lib.ListN.{length-map}
 use borrow.Author.Tests.{lt-ltb, le-ltb}
 use Rattle.sheet.specs.Readings.{readEach, readExpression}
-use Rattle.sheet_check.specs.Map.{WiresLookup}
-use Rattle.sheet_check.proofs.Steps.{is-refused, is-got}
+use Rattle.sheet_expressions.specs.Map.{WiresLookup}
+use Rattle.sheet_expressions.proofs.Steps.{is-refused, is-got}
 use borrow.Author.Needs.{needs}
 use Rattle.sheet_check.proofs.expressions_from.Statement.{statement}
 use Rattle.sheet_check.proofs.expressions_from.Tie as tie
@@ -23,29 +23,38 @@ enum-known-next c = search needs
 
 returns : tie.Need-returns
 returns c =
-    let start = c .before .before .before .before .before .before .before .before .before .before .before .before .before .before .before .before in
+    let named = c .before .before .before .before .before .before .before .before .before .before .before in
+    let start = named .before .before .before .before .before in
     let a = start .args in
-    let l : WiresLookup (a .wires .now) (c .before .before .before .before .before .before .before .before .before .before .before .names-of .result) = record { inputs = a .inputs .now; naming = c .before .before .before .before .before .before .before .before .before .before .before .names-of .ensures } in
+    let l : WiresLookup (a .wires .now) (named .names-of .result) =
+    record { inputs = a .inputs .now; naming = named .names-of .ensures } in
     let run = c .before .before .before .before .check-wires .ensures l in
-    let read = is-got (readEach (readExpression (a .inputs .now) (a .wires .now) (a .t1 .now) 16) (a .wires .now) (a .at) 0) (sym (run .answers) ∙ c .before .before .next .given .1) in
+    let read = is-got (readEach (readExpression (a .inputs .now) (a .wires .now) (a .t1 .now) 16) (a .wires .now) (a .at) 0)
+    (sym (run .answers) ∙ c .before .before .next .given .1) in
     (rw (read .1) (simp (lt-ltb _ _ (c .if1 .taken))), run .drawn)
 
 returns-2 : tie.Need-returns-2
 returns-2 c =
-    let start = c .before .before .before .before .before .before .before .before .before .before .before .before .before .before .before in
+    let named = c .before .before .before .before .before .before .before .before .before .before in
+    let start = named .before .before .before .before .before in
     let a = start .args in
-    let l : WiresLookup (a .wires .now) (c .before .before .before .before .before .before .before .before .before .before .names-of .result) = record { inputs = a .inputs .now; naming = c .before .before .before .before .before .before .before .before .before .before .names-of .ensures } in
+    let l : WiresLookup (a .wires .now) (named .names-of .result) =
+    record { inputs = a .inputs .now; naming = named .names-of .ensures } in
     let run = c .before .before .before .check-wires .ensures l in
-    let read = is-refused (readEach (readExpression (a .inputs .now) (a .wires .now) (a .t1 .now) 16) (a .wires .now) (a .at) 0) (sym (run .answers) ∙ c .before .why .given .1) in
+    let read = is-refused (readEach (readExpression (a .inputs .now) (a .wires .now) (a .t1 .now) 16) (a .wires .now) (a .at) 0)
+    (sym (run .answers) ∙ c .before .why .given .1) in
     (rw read, run .drawn)
 
 returns-3 : tie.Need-returns-3
 returns-3 c =
-    let start = c .before .before .before .before .before .before .before .before .before .before .before .before .before .before .before .before in
+    let named = c .before .before .before .before .before .before .before .before .before .before .before in
+    let start = named .before .before .before .before .before in
     let a = start .args in
-    let l : WiresLookup (a .wires .now) (c .before .before .before .before .before .before .before .before .before .before .before .names-of .result) = record { inputs = a .inputs .now; naming = c .before .before .before .before .before .before .before .before .before .before .before .names-of .ensures } in
+    let l : WiresLookup (a .wires .now) (named .names-of .result) =
+    record { inputs = a .inputs .now; naming = named .names-of .ensures } in
     let run = c .before .before .before .before .check-wires .ensures l in
-    let read = is-got (readEach (readExpression (a .inputs .now) (a .wires .now) (a .t1 .now) 16) (a .wires .now) (a .at) 0) (sym (run .answers) ∙ c .before .before .next .given .1) in
+    let read = is-got (readEach (readExpression (a .inputs .now) (a .wires .now) (a .t1 .now) 16) (a .wires .now) (a .at) 0)
+    (sym (run .answers) ∙ c .before .before .next .given .1) in
     (rw (read .1) (simp (le-ltb _ _ (c .if1 .left), length-map)), run .drawn)
 
 pub expressions-from-spec : {M : Type 1} → statement M

@@ -6,7 +6,7 @@ use lib.ListN.{length}
 use Rattle.sheet.specs.declared.Refusal.the-variants.{OutputWire}
 use Rattle.sheet.specs.Sheets.{outputsFrom}
 use Rattle.sheet.specs.Laws.Headers.{SectionGood, section-good}
-use Rattle.sheet_check.proofs.Fields.{span}
+use Rattle.sheet_check.proofs.Sections.{span}
 use borrow.Author.Needs.{needs}
 use Rattle.sheet_check.proofs.outputs_from.Statement.{statement}
 use Rattle.sheet_check.proofs.outputs_from.Tie as tie

@@ -5,8 +5,7 @@ use native.Mathlib.Omega.{arith}
 use Rattle.sheet.specs.declared.Refusal.the-variants.{TypeByte}
 use Rattle.sheet.specs.Sheets.{wiresFrom}
 use Rattle.sheet.specs.Laws.Headers.{SectionGood, section-good}
-use Rattle.sheet_check.proofs.Fields.{span}
-use Rattle.sheet_check.proofs.Noting.{section-types}
+use Rattle.sheet_check.proofs.Sections.{span, section-types}
 use borrow.Author.Needs.{needs}
 use Rattle.sheet_check.proofs.wires_from.Statement.{statement}
 use Rattle.sheet_check.proofs.wires_from.Tie as tie

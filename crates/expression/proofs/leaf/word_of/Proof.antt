@@ -2,11 +2,14 @@
 use Prim.Native.Nat.{_+_}
 use mathlib.Core.Path.{_∙_}
 use native.Mathlib.Omega.{arith}
-use borrow.Author.Needs.{needs}
 use Rattle.expression.proofs.Leaves.{two-bytes, number-body, wire-byte, entry-byte}
 use Rattle.expression.proofs.Leaves.{word-of-number, word-of-wire, word-of-input, word-of-boolean}
+use borrow.Author.Needs.{needs}
 use Rattle.expression.proofs.leaf.word_of.Statement.{statement}
 use Rattle.expression.proofs.leaf.word_of.Tie as tie
+use Rattle.expression.proofs.leaf.word_of.Reads as reads
+use Rattle.expression.proofs.leaf.word_of.Lts as lts
+use Rattle.numbers.proofs.word_at.Reads as word-at-reads
 
 shared-slice-read-kind : tie.Need-shared-slice-read-kind
 shared-slice-read-kind c = search needs
@@ -35,27 +38,32 @@ mul-result : tie.Need-mul-result
 mul-result c = omega (arith, wire-byte (c .before .before .before .before .before .pre) (c .if2 .taken))
 
 element-copy-out-result : tie.Need-element-copy-out-result
-element-copy-out-result c = wire-byte (c .before .before .before .before .before .pre) (c .if2 .taken)
+element-copy-out-result c = omega (arith, wire-byte (c .before .before .before .before .before .pre) (c .if2 .taken))
 
 returns-2 : tie.Need-returns-2
 returns-2 c =
     let b = c .before .before .before .before .before .before in
     word-of-wire (b .pre) (b .args .words .now) (c .before .if2 .taken)
 
-mul-word-at : tie.Need-mul-word-at
-mul-word-at c =
-    omega (arith, c .before .before .before .shared-slice-known3 .given (c .before .before .before .before .before .before .before .args .at + 1))
+add-result : tie.Need-add-result
+add-result c = omega (arith, entry-byte (c .before .before .before .before .before .before .pre) (c .if3 .taken))
 
-word-at-requires-2 : tie.Need-word-at-requires-2
-word-at-requires-2 c κs = entry-byte (c .before .before .before .before .before .before .before .pre) (c .before .if3 .taken)
+mul-result-2 : tie.Need-mul-result-2
+mul-result-2 c =
+    omega (arith, entry-byte (c .before .before .before .before .before .before .pre) (c .if3 .taken))
+
+element-copy-out-result-2 : tie.Need-element-copy-out-result-2
+element-copy-out-result-2 c =
+    omega (arith, entry-byte (c .before .before .before .before .before .before .pre) (c .if3 .taken))
 
 returns-3 : tie.Need-returns-3
 returns-3 c =
-    let b = c .before .before .before .before .before .before .before .before in
-    c .word-at2 .ensures ∙ word-of-input (b .pre) (b .args .words .now) (c .before .before .if3 .taken)
+    let b = c .before .before .before .before .before .before .before in
+    word-of-input (b .pre) (b .args .words .now) (c .before .if3 .taken)
 
 cast-result : tie.Need-cast-result
-cast-result c = omega (arith, c .before .before .shared-slice-known3 .given (c .before .before .before .before .before .before .args .at + 1))
+cast-result c =
+    omega (arith, c .before .before .shared-slice-known3 .given (c .before .before .before .before .before .before .args .at + 1))
 
 returns-4 : tie.Need-returns-4
 returns-4 c =
@@ -76,8 +84,9 @@ word-of-spec =
     mul-result
     element-copy-out-result
     returns-2
-    mul-word-at
-    word-at-requires-2
+    add-result
+    mul-result-2
+    element-copy-out-result-2
     returns-3
     cast-result
     returns-4)

@@ -4,14 +4,17 @@ use Prim.Native.Nat.{ℕ, _<_, _+_, _*_}
 use mathlib.Core.Path.{sym, _∙_}
 use native.Mathlib.Omega.{arith}
 use borrow.Author.Needs.{needs}
+use borrow.Author.Tests.{not-true, not-false}
 use borrow.Fn.Kinds.{In}
 use borrow.Fn.PlainCycle.{Measures, is, falls, and}
+use Rattle.expression.specs.Places.{unknown}
 use Rattle.expression.proofs.Views.{opened, placed, readable, leaf-of, own-cell}
-use Rattle.expression.proofs.Views.{operation-first, binary-view, conditional-view, present-view, reset-view, fby-view}
+use Rattle.expression.proofs.Views.{own-types, operation-first, binary-view, conditional-view, present-view, reset-view, fby-view}
 use Rattle.expression.proofs.Values.{after-value, after-walk}
-use Rattle.expression.proofs.Answers.{unary-answer, binary-answer, conditional-answer, reset-answer-unknown, reset-answer}
-use Rattle.expression.proofs.Answers.{present-answer-first, present-answer-unknown, present-answer-second}
-use Rattle.expression.proofs.Answers.{fby-answer-left, fby-answer-held, leaf-answer}
+use Rattle.expression.proofs.Answers.{leaf-yields, operation-unknown, unary-answer, binary-answer}
+use Rattle.expression.proofs.Answers.{conditional-unknown, conditional-unknown-arm, conditional-answer}
+use Rattle.expression.proofs.Answers.{present-unknown, present-unknown-arm, present-answer-first, present-answer-second}
+use Rattle.expression.proofs.Answers.{reset-unknown, reset-answer, fby-unknown, fby-answer-left, fby-answer-cell}
 use Rattle.expression.proofs.value.value_by_kind.Reads as by-kind
 use Rattle.expression.proofs.value.value_by_kind.Kinds as by-kind-kinds
 use Rattle.expression.proofs.value.value_conditional.Reads as conditional
@@ -26,16 +29,14 @@ use Rattle.expression.proofs.value.value_present.Reads as present
 use Rattle.expression.proofs.value.value_present.Kinds as present-kinds
 use Rattle.expression.proofs.value.value_reset.Reads as reset
 use Rattle.expression.proofs.value.value_reset.Kinds as reset-kinds
-use Rattle.expression.proofs.leaf.value_leaf.Reads as leaf-reads
-use Rattle.expression.proofs.value.value_pre.Reads as pre-reads
+use Rattle.expression.proofs.cells.is_seen.Reads as is-seen-reads
+use Rattle.expression.proofs.leaf.value_leaf.Reads as value-leaf-reads
+use Rattle.expression.proofs.value.unknown.Reads as unknown-reads
+use Rattle.expression.proofs.value.value_pre.Reads as value-pre-reads
 use Rattle.operations.proofs.binary.Reads as binary-reads
-use Rattle.operations.proofs.conditional.Reads as conditional-reads
-use Rattle.operations.proofs.is_true.Reads as is-true-reads
-use Rattle.operations.proofs.is_unknown.Reads as is-unknown-reads
-use Rattle.operations.proofs.started.Reads as started-reads
+use Rattle.operations.proofs.choose.Reads as choose-reads
 use Rattle.operations.proofs.unary.Reads as unary-reads
-use Rattle.sheet.proofs.kinds.operation_type.Reads as operation-type-reads
-use Rattle.sheet.proofs.memory.cell_at.Reads as cell-at-reads
+use Rattle.sheet.proofs.memory.word_in.Reads as word-in-reads
 use Rattle.sheet_walk.proofs.skip.skip.Reads as skip-reads
 use Rattle.expression.proofs.value.+value_by_kind+value_conditional+value_expression+value_fby+value_operation+value_present+value_reset.{statement}
 use Rattle.expression.proofs.value.+value_by_kind+value_conditional+value_expression+value_fby+value_operation+value_present+value_reset.Lts-value_by_kind as by-kind-lts
@@ -47,84 +48,68 @@ use Rattle.expression.proofs.value.+value_by_kind+value_conditional+val
 use Rattle.expression.proofs.value.+value_by_kind+value_conditional+value_expression+value_fby+value_operation+value_present+value_reset.Lts-value_reset as reset-lts
 use Rattle.expression.proofs.value.+value_by_kind+value_conditional+value_expression+value_fby+value_operation+value_present+value_reset.Tie.{close}
 
-abbrev μ-by-kind : Measures 6 by-kind-kinds.ps ℕ
-μ-by-kind κs a = 3 * a .1 .1 .1 .1 .1 .0 + 1
+abbrev μ-by-kind : Measures 4 by-kind-kinds.ps ℕ
+μ-by-kind κs a = 3 * a .1 .1 .1 .1 .0 + 1
 
-abbrev μ-conditional : Measures 6 conditional-kinds.ps ℕ
-μ-conditional κs a = 3 * a .1 .1 .1 .1 .1 .0
+abbrev μ-conditional : Measures 4 conditional-kinds.ps ℕ
+μ-conditional κs a = 3 * a .1 .1 .1 .1 .0
 
-abbrev μ-expression : Measures 6 expression-kinds.ps ℕ
-μ-expression κs a = 3 * a .1 .1 .1 .1 .1 .0 + 2
+abbrev μ-expression : Measures 4 expression-kinds.ps ℕ
+μ-expression κs a = 3 * a .1 .1 .1 .1 .0 + 2
 
-abbrev μ-fby : Measures 6 fby-kinds.ps ℕ
-μ-fby κs a = 3 * a .1 .1 .1 .1 .1 .0
+abbrev μ-fby : Measures 4 fby-kinds.ps ℕ
+μ-fby κs a = 3 * a .1 .1 .1 .1 .0
 
-abbrev μ-operation : Measures 6 operation-kinds.ps ℕ
-μ-operation κs a = 3 * a .1 .1 .1 .1 .1 .0
+abbrev μ-operation : Measures 4 operation-kinds.ps ℕ
+μ-operation κs a = 3 * a .1 .1 .1 .1 .0
 
-abbrev μ-present : Measures 6 present-kinds.ps ℕ
-μ-present κs a = 3 * a .1 .1 .1 .1 .1 .0
+abbrev μ-present : Measures 4 present-kinds.ps ℕ
+μ-present κs a = 3 * a .1 .1 .1 .1 .0
 
-abbrev μ-reset : Measures 6 reset-kinds.ps ℕ
-μ-reset κs a = 3 * a .1 .1 .1 .1 .1 .0
+abbrev μ-reset : Measures 4 reset-kinds.ps ℕ
+μ-reset κs a = 3 * a .1 .1 .1 .1 .0
 
-abbrev by-kind-at : ℕ → In 6 by-kind-kinds.ps
-by-kind-at t = and 6 by-kind-kinds.ps (is 6 by-kind-kinds.ps μ-by-kind t) by-kind.Pre
+abbrev by-kind-at : ℕ → In 4 by-kind-kinds.ps
+by-kind-at t = and 4 by-kind-kinds.ps (is 4 by-kind-kinds.ps μ-by-kind t) by-kind.Pre
 
-abbrev by-kind-below : ℕ → In 6 by-kind-kinds.ps
-by-kind-below t = and 6 by-kind-kinds.ps (falls 6 by-kind-kinds.ps _<_ μ-by-kind t) by-kind.Pre
+abbrev by-kind-below : ℕ → In 4 by-kind-kinds.ps
+by-kind-below t = and 4 by-kind-kinds.ps (falls 4 by-kind-kinds.ps _<_ μ-by-kind t) by-kind.Pre
 
-abbrev conditional-at : ℕ → In 6 conditional-kinds.ps
-conditional-at t = and 6 conditional-kinds.ps (is 6 conditional-kinds.ps μ-conditional t) conditional.Pre
+abbrev conditional-at : ℕ → In 4 conditional-kinds.ps
+conditional-at t = and 4 conditional-kinds.ps (is 4 conditional-kinds.ps μ-conditional t) conditional.Pre
 
-abbrev conditional-below : ℕ → In 6 conditional-kinds.ps
-conditional-below t = and 6 conditional-kinds.ps (falls 6 conditional-kinds.ps _<_ μ-conditional t) conditional.Pre
+abbrev conditional-below : ℕ → In 4 conditional-kinds.ps
+conditional-below t = and 4 conditional-kinds.ps (falls 4 conditional-kinds.ps _<_ μ-conditional t) conditional.Pre
 
-abbrev expression-at : ℕ → In 6 expression-kinds.ps
-expression-at t = and 6 expression-kinds.ps (is 6 expression-kinds.ps μ-expression t) expression.Pre
+abbrev expression-at : ℕ → In 4 expression-kinds.ps
+expression-at t = and 4 expression-kinds.ps (is 4 expression-kinds.ps μ-expression t) expression.Pre
 
-abbrev expression-below : ℕ → In 6 expression-kinds.ps
-expression-below t = and 6 expression-kinds.ps (falls 6 expression-kinds.ps _<_ μ-expression t) expression.Pre
+abbrev expression-below : ℕ → In 4 expression-kinds.ps
+expression-below t = and 4 expression-kinds.ps (falls 4 expression-kinds.ps _<_ μ-expression t) expression.Pre
 
-abbrev fby-at : ℕ → In 6 fby-kinds.ps
-fby-at t = and 6 fby-kinds.ps (is 6 fby-kinds.ps μ-fby t) fby.Pre
+abbrev fby-at : ℕ → In 4 fby-kinds.ps
+fby-at t = and 4 fby-kinds.ps (is 4 fby-kinds.ps μ-fby t) fby.Pre
 
-abbrev fby-below : ℕ → In 6 fby-kinds.ps
-fby-below t = and 6 fby-kinds.ps (falls 6 fby-kinds.ps _<_ μ-fby t) fby.Pre
+abbrev fby-below : ℕ → In 4 fby-kinds.ps
+fby-below t = and 4 fby-kinds.ps (falls 4 fby-kinds.ps _<_ μ-fby t) fby.Pre
 
-abbrev operation-at : ℕ → In 6 operation-kinds.ps
-operation-at t = and 6 operation-kinds.ps (is 6 operation-kinds.ps μ-operation t) operation.Pre
+abbrev operation-at : ℕ → In 4 operation-kinds.ps
+operation-at t = and 4 operation-kinds.ps (is 4 operation-kinds.ps μ-operation t) operation.Pre
 
-abbrev operation-below : ℕ → In 6 operation-kinds.ps
-operation-below t = and 6 operation-kinds.ps (falls 6 operation-kinds.ps _<_ μ-operation t) operation.Pre
+abbrev operation-below : ℕ → In 4 operation-kinds.ps
+operation-below t = and 4 operation-kinds.ps (falls 4 operation-kinds.ps _<_ μ-operation t) operation.Pre
 
-abbrev present-at : ℕ → In 6 present-kinds.ps
-present-at t = and 6 present-kinds.ps (is 6 present-kinds.ps μ-present t) present.Pre
+abbrev present-at : ℕ → In 4 present-kinds.ps
+present-at t = and 4 present-kinds.ps (is 4 present-kinds.ps μ-present t) present.Pre
 
-abbrev present-below : ℕ → In 6 present-kinds.ps
-present-below t = and 6 present-kinds.ps (falls 6 present-kinds.ps _<_ μ-present t) present.Pre
+abbrev present-below : ℕ → In 4 present-kinds.ps
+present-below t = and 4 present-kinds.ps (falls 4 present-kinds.ps _<_ μ-present t) present.Pre
 
-abbrev reset-at : ℕ → In 6 reset-kinds.ps
-reset-at t = and 6 reset-kinds.ps (is 6 reset-kinds.ps μ-reset t) reset.Pre
+abbrev reset-at : ℕ → In 4 reset-kinds.ps
+reset-at t = and 4 reset-kinds.ps (is 4 reset-kinds.ps μ-reset t) reset.Pre
 
-abbrev reset-below : ℕ → In 6 reset-kinds.ps
-reset-below t = and 6 reset-kinds.ps (falls 6 reset-kinds.ps _<_ μ-reset t) reset.Pre
-
-abbrev conditional-calls : ℕ → conditional-lts.Claims
-conditional-calls t = (
-  expression-below t,
-  expression.Post,
-  conditional-reads.Asked,
-  conditional-reads.Learnt,
-)
-
-abbrev expression-calls : ℕ → expression-lts.Claims
-expression-calls t = (
-  leaf-reads.Asked,
-  leaf-reads.Learnt,
-  by-kind-below t,
-  by-kind.Post,
-)
+abbrev reset-below : ℕ → In 4 reset-kinds.ps
+reset-below t = and 4 reset-kinds.ps (falls 4 reset-kinds.ps _<_ μ-reset t) reset.Pre
 
 abbrev by-kind-calls : ℕ → by-kind-lts.Claims
 by-kind-calls t = (
@@ -134,34 +119,54 @@ by-kind-calls t = (
   present.Post,
   reset-below t,
   reset.Post,
-  leaf-reads.Asked,
-  leaf-reads.Learnt,
+  value-leaf-reads.Asked,
+  value-leaf-reads.Learnt,
   operation-below t,
   operation.Post,
-  pre-reads.Asked,
-  pre-reads.Learnt,
+  value-pre-reads.Asked,
+  value-pre-reads.Learnt,
   fby-below t,
   fby.Post,
 )
 
-abbrev fby-calls : ℕ → fby-lts.Claims
-fby-calls t = (
-  cell-at-reads.Asked,
-  cell-at-reads.Learnt,
-  started-reads.Asked,
-  started-reads.Learnt,
+abbrev conditional-calls : ℕ → conditional-lts.Claims
+conditional-calls t = (
   expression-below t,
   expression.Post,
+  unknown-reads.Asked,
+  unknown-reads.Learnt,
+  choose-reads.Asked,
+  choose-reads.Learnt,
+)
+
+abbrev expression-calls : ℕ → expression-lts.Claims
+expression-calls t = (
+  value-leaf-reads.Asked,
+  value-leaf-reads.Learnt,
+  by-kind-below t,
+  by-kind.Post,
+)
+
+abbrev fby-calls : ℕ → fby-lts.Claims
+fby-calls t = (
+  is-seen-reads.Asked,
+  is-seen-reads.Learnt,
   skip-reads.Asked,
   skip-reads.Learnt,
+  word-in-reads.Asked,
+  word-in-reads.Learnt,
+  expression-below t,
+  expression.Post,
+  unknown-reads.Asked,
+  unknown-reads.Learnt,
 )
 
 abbrev operation-calls : ℕ → operation-lts.Claims
 operation-calls t = (
-  operation-type-reads.Asked,
-  operation-type-reads.Learnt,
   expression-below t,
   expression.Post,
+  unknown-reads.Asked,
+  unknown-reads.Learnt,
   unary-reads.Asked,
   unary-reads.Learnt,
   binary-reads.Asked,
@@ -172,82 +177,29 @@ abbrev present-calls : ℕ → present-lts.Claims
 present-calls t = (
   expression-below t,
   expression.Post,
-  is-true-reads.Asked,
-  is-true-reads.Learnt,
+  unknown-reads.Asked,
+  unknown-reads.Learnt,
   by-kind-below t,
   by-kind.Post,
   skip-reads.Asked,
   skip-reads.Learnt,
-  is-unknown-reads.Asked,
-  is-unknown-reads.Learnt,
 )
 
 abbrev reset-calls : ℕ → reset-lts.Claims
 reset-calls t = (
   expression-below t,
   expression.Post,
-  is-unknown-reads.Asked,
-  is-unknown-reads.Learnt,
-  skip-reads.Asked,
-  skip-reads.Learnt,
-  is-true-reads.Asked,
-  is-true-reads.Learnt,
+  unknown-reads.Asked,
+  unknown-reads.Learnt,
   by-kind-below t,
   by-kind.Post,
 )
 
 module _ (t : ℕ) where
-  conditional-sub-below : conditional-lts.Need-sub-below (conditional-calls t) (conditional-at t) conditional.Post
-  conditional-sub-below c = opened (c .before .pre .1 .0) .level-left
+  by-kind-shared-slice-read-match : by-kind-lts.Need-shared-slice-read-match (by-kind-calls t) (by-kind-at t) by-kind.Post
+  by-kind-shared-slice-read-match c = opened (c .before .before .pre .1 .1) .good .starts
 
-  conditional-add-first : conditional-lts.Need-add-first (conditional-calls t) (conditional-at t) conditional.Post
-  conditional-add-first c = omega (arith, opened (c .before .pre .1 .0) .good .starts)
-
-  conditional-value-expression-requires :
-      conditional-lts.Need-value-expression-requires (conditional-calls t) (conditional-at t) conditional.Post
-  conditional-value-expression-requires c κs =
-      let b = c .before in
-      let p = b .pre .1 .0 in
-      let w = conditional-view p (b .pre .1 .1) in
-      (omega (arith, b .pre .0, opened p .level-left), placed p (w .first))
-
-  conditional-value-expression-requires-2 :
-      conditional-lts.Need-value-expression-requires-2 (conditional-calls t) (conditional-at t) conditional.Post
-  conditional-value-expression-requires-2 c κs =
-      let b = c .before .before in
-      let p = b .pre .1 .0 in
-      let w = conditional-view p (b .pre .1 .1) in (
-        omega (arith, b .pre .0, opened p .level-left),
-        placed p (after-value p (b .args .fresh) (w .first) (c .value-expression .ensures) (w .second)),
-      )
-
-  conditional-value-expression-requires-3 :
-      conditional-lts.Need-value-expression-requires-3 (conditional-calls t) (conditional-at t) conditional.Post
-  conditional-value-expression-requires-3 c κs =
-      let b = c .before .before .before in
-      let p = b .pre .1 .0 in
-      let w = conditional-view p (b .pre .1 .1) in
-      let second = after-value p (b .args .fresh) (w .first) (c .before .value-expression .ensures) (w .second) in (
-        omega (arith, b .pre .0, opened p .level-left),
-        placed p (after-value p (b .args .fresh) second (c .value-expression2 .ensures) (w .third)),
-      )
-
-  conditional-conditional-requires : conditional-lts.Need-conditional-requires (conditional-calls t) (conditional-at t) conditional.Post
-  conditional-conditional-requires c κs = search needs
-
-  conditional-returns : conditional-lts.Need-returns (conditional-calls t) (conditional-at t) conditional.Post
-  conditional-returns c =
-      let b = c .before .before .before .before .before in
-      λ p. conditional-answer p (b .args .fresh) (b .pre .1 .1) (c .before .before .before .value-expression .ensures)
-      (c .before .before .value-expression2 .ensures)
-      (c .before .value-expression3 .ensures) (c .conditional .ensures)
-
-  by-kind-shared-slice-read-match :
-      by-kind-lts.Need-shared-slice-read-match (by-kind-calls t) (by-kind-at t) by-kind.Post
-  by-kind-shared-slice-read-match c = opened (c .before .before .pre .1) .good .starts
-
-  by-kind-value-conditional-requires :
-      by-kind-lts.Need-value-conditional-requires (by-kind-calls t) (by-kind-at t) by-kind.Post
+  by-kind-value-conditional-requires : by-kind-lts.Need-value-conditional-requires (by-kind-calls t) (by-kind-at t) by-kind.Post
   by-kind-value-conditional-requires c κs =
       let b = c .before .before .before in
       (omega (arith, b .pre .0), (b .pre .1, c .match .keys1))
@@ -263,10 +215,9 @@ module _ (t : ℕ) where
       (omega (arith, b .pre .0), (b .pre .1, c .match .keys3))
 
   by-kind-value-leaf-requires : by-kind-lts.Need-value-leaf-requires (by-kind-calls t) (by-kind-at t) by-kind.Post
-  by-kind-value-leaf-requires c κs = leaf-of (c .before .before .before .before .pre .1) (omega arith)
+  by-kind-value-leaf-requires c κs = leaf-of (c .before .before .before .before .pre .1 .1) (omega arith)
 
-  by-kind-value-operation-requires :
-      by-kind-lts.Need-value-operation-requires (by-kind-calls t) (by-kind-at t) by-kind.Post
+  by-kind-value-operation-requires : by-kind-lts.Need-value-operation-requires (by-kind-calls t) (by-kind-at t) by-kind.Post
   by-kind-value-operation-requires c κs =
       let b = c .before .before .before .before .before in
       (omega (arith, b .pre .0), (b .pre .1, search needs))
@@ -277,7 +228,7 @@ module _ (t : ℕ) where
   by-kind-value-fby-requires : by-kind-lts.Need-value-fby-requires (by-kind-calls t) (by-kind-at t) by-kind.Post
   by-kind-value-fby-requires c κs =
       let b = c .before .before .before .before .before .before in
-      (omega (arith, b .pre .0), (b .pre .1, omega (arith, opened (b .pre .1) .good .kind)))
+      (omega (arith, b .pre .0), (b .pre .1, omega (arith, opened (b .pre .1 .1) .good .kind)))
 
   by-kind-returns : by-kind-lts.Need-returns (by-kind-calls t) (by-kind-at t) by-kind.Post
   by-kind-returns c = c .value-conditional .ensures
@@ -291,7 +242,7 @@ module _ (t : ℕ) where
   by-kind-returns-4 : by-kind-lts.Need-returns-4 (by-kind-calls t) (by-kind-at t) by-kind.Post
   by-kind-returns-4 c =
       let b = c .before .before .before .before .before in
-      λ p. c .value-leaf .ensures ∙ leaf-answer p (b .args .fresh) (omega arith)
+      λ t p. leaf-yields p (b .args .fresh) (omega arith) (c .value-leaf .ensures)
 
   by-kind-returns-5 : by-kind-lts.Need-returns-5 (by-kind-calls t) (by-kind-at t) by-kind.Post
   by-kind-returns-5 c = c .value-operation .ensures
@@ -302,272 +253,361 @@ module _ (t : ℕ) where
   by-kind-returns-7 : by-kind-lts.Need-returns-7 (by-kind-calls t) (by-kind-at t) by-kind.Post
   by-kind-returns-7 c = c .value-fby .ensures
 
-  fby-sub-below : fby-lts.Need-sub-below (fby-calls t) (fby-at t) fby.Post
-  fby-sub-below c = opened (c .before .pre .1 .0) .level-left
+  conditional-sub-below : conditional-lts.Need-sub-below (conditional-calls t) (conditional-at t) conditional.Post
+  conditional-sub-below c = opened (c .before .pre .1 .0 .1) .level-left
 
-  fby-add-first : fby-lts.Need-add-first (fby-calls t) (fby-at t) fby.Post
-  fby-add-first c = omega (arith, opened (c .before .pre .1 .0) .good .starts)
+  conditional-add-first : conditional-lts.Need-add-first (conditional-calls t) (conditional-at t) conditional.Post
+  conditional-add-first c = omega (arith, opened (c .before .pre .1 .0 .1) .good .starts)
 
-  fby-add-inner : fby-lts.Need-add-inner (fby-calls t) (fby-at t) fby.Post
-  fby-add-inner c = omega (arith, opened (c .before .pre .1 .0) .good .cells)
-
-  fby-cell-at-requires : fby-lts.Need-cell-at-requires (fby-calls t) (fby-at t) fby.Post
-  fby-cell-at-requires c κs =
-      let b = c .before .before in
-      own-cell (b .pre .1 .0) (omega (arith, b .pre .1 .1)) .stands .fits
-
-  fby-started-requires : fby-lts.Need-started-requires (fby-calls t) (fby-at t) fby.Post
-  fby-started-requires c κs = search needs
-
-  fby-enum-known-seen : fby-lts.Need-enum-known-seen (fby-calls t) (fby-at t) fby.Post
-  fby-enum-known-seen c = search needs
-
-  fby-enum-told : fby-lts.Need-enum-told (fby-calls t) (fby-at t) fby.Post
-  fby-enum-told c = search needs
-
-  fby-value-expression-requires : fby-lts.Need-value-expression-requires (fby-calls t) (fby-at t) fby.Post
-  fby-value-expression-requires c κs =
-      let b = c .before .before .before .before .before .before in
-      let p = b .pre .1 .0 in
-      let w = fby-view p (b .pre .1 .1) in
-      (omega (arith, b .pre .0, opened p .level-left), placed p (w .first))
-
-  fby-skip-requires : fby-lts.Need-skip-requires (fby-calls t) (fby-at t) fby.Post
-  fby-skip-requires c κs =
-      let b = c .before .before .before .before .before .before .before in
-      let p = b .pre .1 .0 in
-      let w = fby-view p (b .pre .1 .1) in
-      readable p (after-value p (b .args .fresh) (w .first) (c .value-expression .ensures) (w .second))
-
-  fby-returns : fby-lts.Need-returns (fby-calls t) (fby-at t) fby.Post
-  fby-returns c =
-      let b = c .before .before .before .before .before .before .before .before in
-      λ p. fby-answer-left p (b .args .fresh) (b .pre .1 .1) (c .before .before .before .before .before .cell-at .ensures)
-      (c .before .before .before .before .started .ensures)
-      (c .before .before .enum-told .given .1) (c .before .value-expression .ensures) (c .skip .ensures)
-
-  fby-skip-requires-2 : fby-lts.Need-skip-requires-2 (fby-calls t) (fby-at t) fby.Post
-  fby-skip-requires-2 c κs =
-      let b = c .before .before .before .before .before .before .before in
-      let p = b .pre .1 .0 in
-      let w = fby-view p (b .pre .1 .1) in
-      readable p (w .first)
-
-  fby-skip-requires-3 : fby-lts.Need-skip-requires-3 (fby-calls t) (fby-at t) fby.Post
-  fby-skip-requires-3 c κs =
-      let b = c .before .before .before .before .before .before .before .before in
-      let p = b .pre .1 .0 in
-      let w = fby-view p (b .pre .1 .1) in
-      readable p (after-walk p (w .first) (c .skip2 .ensures) (w .second))
-
-  fby-returns-2 : fby-lts.Need-returns-2 (fby-calls t) (fby-at t) fby.Post
-  fby-returns-2 c =
-      let b = c .before .before .before .before .before .before .before .before .before in
-      λ p. fby-answer-held p (b .args .fresh) (b .pre .1 .1) (c .before .before .before .before .before .before .cell-at .ensures)
-      (c .before .before .before .before .before .started .ensures)
-      (c .before .before .before .seen .given .1) (c .before .skip2 .ensures) (c .skip3 .ensures)
-
-  operation-shared-slice-read-kind : operation-lts.Need-shared-slice-read-kind (operation-calls t) (operation-at t) operation.Post
-  operation-shared-slice-read-kind c = opened (c .before .before .pre .1 .0) .good .starts
-
-  operation-operation-type-requires : operation-lts.Need-operation-type-requires (operation-calls t) (operation-at t) operation.Post
-  operation-operation-type-requires c κs = c .before .before .pre .1 .1
-
-  operation-sub-below : operation-lts.Need-sub-below (operation-calls t) (operation-at t) operation.Post
-  operation-sub-below c = opened (c .before .before .before .pre .1 .0) .level-left
-
-  operation-add-first : operation-lts.Need-add-first (operation-calls t) (operation-at t) operation.Post
-  operation-add-first c = omega (arith, opened (c .before .before .before .pre .1 .0) .good .starts)
-
-  operation-value-expression-requires : operation-lts.Need-value-expression-requires (operation-calls t) (operation-at t) operation.Post
-  operation-value-expression-requires c κs =
-      let b = c .before .before .before in
-      let p = b .pre .1 .0 in (
-        omega (arith, b .pre .0, opened p .level-left),
-        placed p (operation-first p _ (c .operation-type .ensures _) (b .pre .1 .1 .0) (b .pre .1 .1 .1)),
-      )
-
-  operation-unary-requires : operation-lts.Need-unary-requires (operation-calls t) (operation-at t) operation.Post
-  operation-unary-requires c κs = search needs
-
-  operation-returns : operation-lts.Need-returns (operation-calls t) (operation-at t) operation.Post
-  operation-returns c =
-      let b = c .before .before .before .before .before .before in
-      λ p. unary-answer p (b .args .fresh) _ (c .before .before .before .operation-type .ensures _) (b .pre .1 .1 .0)
-      (c .before .if1 .taken)
-      (c .before .before .value-expression .ensures) (c .unary .ensures)
-
-  operation-value-expression-requires-2 :
-      operation-lts.Need-value-expression-requires-2 (operation-calls t) (operation-at t) operation.Post
-  operation-value-expression-requires-2 c κs =
-      let b = c .before .before .before .before .before in
-      let p = b .pre .1 .0 in
-      let w = binary-view p _ (c .before .before .operation-type .ensures _) (c .if1 .left) (b .pre .1 .1 .1) in (
-        omega (arith, b .pre .0, opened p .level-left),
-        placed p (after-value p (b .args .fresh) (w .first) (c .before .value-expression .ensures) (w .second)),
-      )
-
-  operation-binary-requires : operation-lts.Need-binary-requires (operation-calls t) (operation-at t) operation.Post
-  operation-binary-requires c κs = search needs
-
-  operation-returns-2 : operation-lts.Need-returns-2 (operation-calls t) (operation-at t) operation.Post
-  operation-returns-2 c =
-      let b = c .before .before .before .before .before .before .before in
-      λ p. binary-answer p (b .args .fresh) _ (c .before .before .before .before .operation-type .ensures _)
-      (c .before .before .if1 .left) (b .pre .1 .1 .1)
-      (c .before .before .before .value-expression .ensures) (c .before .value-expression2 .ensures) (c .binary .ensures)
-
-  present-sub-below : present-lts.Need-sub-below (present-calls t) (present-at t) present.Post
-  present-sub-below c = opened (c .before .pre .1 .0) .level-left
-
-  present-add-first : present-lts.Need-add-first (present-calls t) (present-at t) present.Post
-  present-add-first c = omega (arith, opened (c .before .pre .1 .0) .good .starts)
-
-  present-value-expression-requires : present-lts.Need-value-expression-requires (present-calls t) (present-at t) present.Post
-  present-value-expression-requires c κs =
+  conditional-value-expression-requires :
+      conditional-lts.Need-value-expression-requires (conditional-calls t) (conditional-at t) conditional.Post
+  conditional-value-expression-requires c κs =
       let b = c .before in
-      let p = b .pre .1 .0 in
-      let w = present-view p (b .pre .1 .1) in
-      (omega (arith, b .pre .0, opened p .level-left), placed p (w .first))
+      let p = b .pre .1 .0 .1 in
+      (omega (arith, b .pre .0, opened p .level-left), (_, placed p (conditional-view p (b .pre .1 .1) .first)))
 
-  present-is-true-requires : present-lts.Need-is-true-requires (present-calls t) (present-at t) present.Post
-  present-is-true-requires c κs = search needs
+  conditional-unknown-requires : conditional-lts.Need-unknown-requires (conditional-calls t) (conditional-at t) conditional.Post
+  conditional-unknown-requires c κs = search needs
 
-  present-value-by-kind-requires : present-lts.Need-value-by-kind-requires (present-calls t) (present-at t) present.Post
-  present-value-by-kind-requires c κs =
-      let b = c .before .before .before .before in
-      let p = b .pre .1 .0 in
-      let w = present-view p (b .pre .1 .1) in (
-        omega (arith, b .pre .0, opened p .level-left),
-        placed p (after-value p (b .args .fresh) (w .first) (c .before .before .value-expression .ensures) (w .second)),
-      )
+  conditional-returns : conditional-lts.Need-returns (conditional-calls t) (conditional-at t) conditional.Post
+  conditional-returns c =
+      let condition = c .before .before .before in
+      let b = condition .before .before in
+      λ t p. unknown (c .unknown .ensures)
+      (conditional-unknown p (b .args .fresh) (b .pre .1 .1) (condition .value-expression .ensures) (not-true _ (c .before .if1 .taken)))
 
-  present-skip-requires : present-lts.Need-skip-requires (present-calls t) (present-at t) present.Post
-  present-skip-requires c κs =
-      let b = c .before .before .before .before .before in
-      let p = b .pre .1 .0 in
-      let w = present-view p (b .pre .1 .1) in
-      let second = after-value p (b .args .fresh) (w .first) (c .before .before .before .value-expression .ensures) (w .second) in
-      readable p (after-value p (b .args .fresh) second (c .value-by-kind .ensures) (w .third))
+  conditional-value-expression-requires-2 :
+      conditional-lts.Need-value-expression-requires-2 (conditional-calls t) (conditional-at t) conditional.Post
+  conditional-value-expression-requires-2 c κs =
+      let condition = c .before .before in
+      let b = condition .before .before in
+      let p = b .pre .1 .0 .1 in
+      let w = conditional-view p (b .pre .1 .1) in
+      let second = after-value p (w .first) (condition .value-expression .ensures) (not-false _ (c .if1 .left)) (w .second) in
+      (omega (arith, b .pre .0, opened p .level-left), (_, placed p second))
 
-  present-returns : present-lts.Need-returns (present-calls t) (present-at t) present.Post
-  present-returns c =
-      let b = c .before .before .before .before .before .before in
-      λ p. present-answer-first p (b .args .fresh) (b .pre .1 .1) (c .before .before .before .before .value-expression .ensures)
-      (sym (c .before .before .before .is-true .ensures) ∙ c .before .before .if1 .taken) (c .before .value-by-kind .ensures)
-      (c .skip .ensures)
+  conditional-unknown-requires-2 : conditional-lts.Need-unknown-requires-2 (conditional-calls t) (conditional-at t) conditional.Post
+  conditional-unknown-requires-2 c κs = search needs
 
-  present-skip-requires-2 : present-lts.Need-skip-requires-2 (present-calls t) (present-at t) present.Post
-  present-skip-requires-2 c κs =
-      let b = c .before .before .before .before in
-      let p = b .pre .1 .0 in
-      let w = present-view p (b .pre .1 .1) in
-      readable p (after-value p (b .args .fresh) (w .first) (c .before .before .value-expression .ensures) (w .second))
+  conditional-returns-2 : conditional-lts.Need-returns-2 (conditional-calls t) (conditional-at t) conditional.Post
+  conditional-returns-2 c =
+      let then = c .before .before .before in
+      let condition = then .before .before .before in
+      let b = condition .before .before in
+      λ t p. unknown (c .unknown2 .ensures)
+      (conditional-unknown-arm p (b .args .fresh) (b .pre .1 .1)
+      (condition .value-expression .ensures) (not-false _ (then .before .if1 .left))
+      (then .value-expression2 .ensures) (not-true _ (c .before .if2 .taken)))
 
-  present-is-unknown-requires : present-lts.Need-is-unknown-requires (present-calls t) (present-at t) present.Post
-  present-is-unknown-requires c κs = search needs
+  conditional-value-expression-requires-3 :
+      conditional-lts.Need-value-expression-requires-3 (conditional-calls t) (conditional-at t) conditional.Post
+  conditional-value-expression-requires-3 c κs =
+      let then = c .before .before in
+      let condition = then .before .before .before in
+      let b = condition .before .before in
+      let p = b .pre .1 .0 .1 in
+      let w = conditional-view p (b .pre .1 .1) in
+      let second = after-value p (w .first) (condition .value-expression .ensures) (not-false _ (then .before .if1 .left)) (w .second) in
+      let third = after-value p second (then .value-expression2 .ensures) (not-false _ (c .if2 .left)) (w .third) in
+      (omega (arith, b .pre .0, opened p .level-left), (_, placed p third))
 
-  present-skip-requires-3 : present-lts.Need-skip-requires-3 (present-calls t) (present-at t) present.Post
-  present-skip-requires-3 c κs =
-      let b = c .before .before .before .before .before .before .before in
-      let p = b .pre .1 .0 in
-      let w = present-view p (b .pre .1 .1) in
-      let second = after-value p (b .args .fresh) (w .first) (c .before .before .before .before .before .value-expression .ensures)
-      (w .second) in
-      readable p (after-walk p second (c .before .before .skip2 .ensures) (w .third))
+  conditional-choose-requires : conditional-lts.Need-choose-requires (conditional-calls t) (conditional-at t) conditional.Post
+  conditional-choose-requires c κs = search needs
 
-  present-returns-2 : present-lts.Need-returns-2 (present-calls t) (present-at t) present.Post
-  present-returns-2 c =
-      let b = c .before .before .before .before .before .before .before .before in
-      λ p. present-answer-unknown p (b .args .fresh) (b .pre .1 .1)
-      (c .before .before .before .before .before .before .value-expression .ensures)
-      (sym (c .before .before .is-unknown .ensures) ∙ c .before .if2 .taken) (c .before .before .before .skip2 .ensures)
-      (c .skip3 .ensures)
-
-  present-value-by-kind-requires-2 : present-lts.Need-value-by-kind-requires-2 (present-calls t) (present-at t) present.Post
-  present-value-by-kind-requires-2 c κs =
-      let b = c .before .before .before .before .before .before .before in
-      let p = b .pre .1 .0 in
-      let w = present-view p (b .pre .1 .1) in
-      let second = after-value p (b .args .fresh) (w .first) (c .before .before .before .before .before .value-expression .ensures)
-      (w .second) in (
-        omega (arith, b .pre .0, opened p .level-left),
-        placed p (after-walk p second (c .before .before .skip2 .ensures) (w .third)),
-      )
-
-  present-returns-3 : present-lts.Need-returns-3 (present-calls t) (present-at t) present.Post
-  present-returns-3 c =
-      let b = c .before .before .before .before .before .before .before .before in
-      λ p. present-answer-second p (b .args .fresh) (b .pre .1 .1)
-      (c .before .before .before .before .before .before .value-expression .ensures)
-      (sym (c .before .before .before .before .before .is-true .ensures) ∙ c .before .before .before .before .if1 .left)
-      (sym (c .before .before .is-unknown .ensures) ∙ c .before .if2 .left) (c .before .before .before .skip2 .ensures)
-      (c .value-by-kind2 .ensures)
-
-  reset-sub-below : reset-lts.Need-sub-below (reset-calls t) (reset-at t) reset.Post
-  reset-sub-below c = opened (c .before .pre .1 .0) .level-left
-
-  reset-add-first : reset-lts.Need-add-first (reset-calls t) (reset-at t) reset.Post
-  reset-add-first c = omega (arith, opened (c .before .pre .1 .0) .good .starts)
-
-  reset-value-expression-requires : reset-lts.Need-value-expression-requires (reset-calls t) (reset-at t) reset.Post
-  reset-value-expression-requires c κs =
-      let b = c .before in
-      let p = b .pre .1 .0 in
-      let w = reset-view p (b .pre .1 .1) in
-      (omega (arith, b .pre .0, opened p .level-left), placed p (w .first))
-
-  reset-is-unknown-requires : reset-lts.Need-is-unknown-requires (reset-calls t) (reset-at t) reset.Post
-  reset-is-unknown-requires c κs = search needs
-
-  reset-skip-requires : reset-lts.Need-skip-requires (reset-calls t) (reset-at t) reset.Post
-  reset-skip-requires c κs =
-      let b = c .before .before .before .before in
-      let p = b .pre .1 .0 in
-      let w = reset-view p (b .pre .1 .1) in
-      readable p (after-value p (b .args .fresh) (w .first) (c .before .before .value-expression .ensures) (w .second))
-
-  reset-returns : reset-lts.Need-returns (reset-calls t) (reset-at t) reset.Post
-  reset-returns c =
-      let b = c .before .before .before .before .before in
-      λ p. reset-answer-unknown p (b .args .fresh) (b .pre .1 .1) (c .before .before .before .value-expression .ensures)
-      (sym (c .before .before .is-unknown .ensures) ∙ c .before .if1 .taken) (c .skip .ensures)
-
-  reset-is-true-requires : reset-lts.Need-is-true-requires (reset-calls t) (reset-at t) reset.Post
-  reset-is-true-requires c κs = search needs
-
-  reset-value-by-kind-requires : reset-lts.Need-value-by-kind-requires (reset-calls t) (reset-at t) reset.Post
-  reset-value-by-kind-requires c κs =
-      let b = c .before .before .before .before .before in
-      let p = b .pre .1 .0 in
-      let w = reset-view p (b .pre .1 .1) in (
-        omega (arith, b .pre .0, opened p .level-left),
-        placed p (after-value p (b .args .fresh) (w .first) (c .before .before .before .value-expression .ensures) (w .second)),
-      )
-
-  reset-returns-2 : reset-lts.Need-returns-2 (reset-calls t) (reset-at t) reset.Post
-  reset-returns-2 c =
-      let b = c .before .before .before .before .before .before in
-      λ p. reset-answer p (b .args .fresh) (b .pre .1 .1) (c .before .before .before .before .value-expression .ensures)
-      (sym (c .before .before .before .is-unknown .ensures) ∙ c .before .before .if1 .left) (c .before .is-true .ensures)
-      (c .value-by-kind .ensures)
+  conditional-returns-3 : conditional-lts.Need-returns-3 (conditional-calls t) (conditional-at t) conditional.Post
+  conditional-returns-3 c =
+      let otherwise = c .before .before in
+      let then = otherwise .before .before .before in
+      let condition = then .before .before .before in
+      let b = condition .before .before in
+      λ t p. conditional-answer p (b .args .fresh) (b .pre .1 .1)
+      (condition .value-expression .ensures) (not-false _ (then .before .if1 .left))
+      (then .value-expression2 .ensures) (not-false _ (otherwise .before .if2 .left))
+      (otherwise .value-expression3 .ensures) (c .choose .ensures)
 
   expression-shared-slice-read-if1 : expression-lts.Need-shared-slice-read-if1 (expression-calls t) (expression-at t) expression.Post
-  expression-shared-slice-read-if1 c = opened (c .before .before .pre .1) .good .starts
+  expression-shared-slice-read-if1 c = opened (c .before .before .pre .1 .1) .good .starts
 
   expression-value-leaf-requires : expression-lts.Need-value-leaf-requires (expression-calls t) (expression-at t) expression.Post
-  expression-value-leaf-requires c κs = leaf-of (c .before .before .before .pre .1) (c .if1 .taken)
+  expression-value-leaf-requires c κs = leaf-of (c .before .before .before .pre .1 .1) (c .if1 .taken)
 
   expression-returns : expression-lts.Need-returns (expression-calls t) (expression-at t) expression.Post
   expression-returns c =
       let b = c .before .before .before .before in
-      λ p. c .value-leaf .ensures ∙ leaf-answer p (b .args .fresh) (c .before .if1 .taken)
+      λ t p. leaf-yields p (b .args .fresh) (c .before .if1 .taken) (c .value-leaf .ensures)
 
   expression-value-by-kind-requires : expression-lts.Need-value-by-kind-requires (expression-calls t) (expression-at t) expression.Post
   expression-value-by-kind-requires c κs = let b = c .before .before .before in (omega (arith, b .pre .0), b .pre .1)
 
   expression-returns-2 : expression-lts.Need-returns-2 (expression-calls t) (expression-at t) expression.Post
   expression-returns-2 c = c .value-by-kind .ensures
+
+  fby-sub-below : fby-lts.Need-sub-below (fby-calls t) (fby-at t) fby.Post
+  fby-sub-below c = opened (c .before .pre .1 .0 .1) .level-left
+
+  fby-add-first : fby-lts.Need-add-first (fby-calls t) (fby-at t) fby.Post
+  fby-add-first c = omega (arith, opened (c .before .pre .1 .0 .1) .good .starts)
+
+  fby-add-inner : fby-lts.Need-add-inner (fby-calls t) (fby-at t) fby.Post
+  fby-add-inner c = omega (arith, opened (c .before .pre .1 .0 .1) .good .cells)
+
+  fby-is-seen-requires : fby-lts.Need-is-seen-requires (fby-calls t) (fby-at t) fby.Post
+  fby-is-seen-requires c κs =
+      let b = c .before .before in
+      let p = b .pre .1 .0 .1 in
+      own-cell p (omega (arith, b .pre .1 .1)) .stands .fits
+
+  fby-skip-requires : fby-lts.Need-skip-requires (fby-calls t) (fby-at t) fby.Post
+  fby-skip-requires c κs =
+      let b = c .before .before .before .before in
+      let p = b .pre .1 .0 .1 in
+      readable p (fby-view p (b .pre .1 .1) .first)
+
+  fby-skip-requires-2 : fby-lts.Need-skip-requires-2 (fby-calls t) (fby-at t) fby.Post
+  fby-skip-requires-2 c κs =
+      let b = c .before .before .before .before .before in
+      let p = b .pre .1 .0 .1 in
+      let w = fby-view p (b .pre .1 .1) in
+      readable p (after-walk p (w .first) (c .skip .ensures) (w .second))
+
+  fby-word-in-requires : fby-lts.Need-word-in-requires (fby-calls t) (fby-at t) fby.Post
+  fby-word-in-requires c κs =
+      let b = c .before .before .before .before .before .before .before in
+      let p = b .pre .1 .0 .1 in
+      own-cell p (omega (arith, b .pre .1 .1)) .stands .fits
+
+  fby-returns : fby-lts.Need-returns (fby-calls t) (fby-at t) fby.Post
+  fby-returns c =
+      let test = c .before .before .before .before in
+      let b = test .before .before .before .before in
+      λ t p. fby-answer-cell p (b .args .fresh) (b .pre .1 .1) (sym (test .before .is-seen .ensures) ∙ test .if1 .taken)
+      (c .word-in .ensures) (c .before .before .before .skip .ensures) (c .before .before .skip2 .ensures)
+
+  fby-value-expression-requires : fby-lts.Need-value-expression-requires (fby-calls t) (fby-at t) fby.Post
+  fby-value-expression-requires c κs =
+      let b = c .before .before .before .before in
+      let p = b .pre .1 .0 .1 in
+      (omega (arith, b .pre .0, opened p .level-left), (_, placed p (fby-view p (b .pre .1 .1) .first)))
+
+  fby-unknown-requires : fby-lts.Need-unknown-requires (fby-calls t) (fby-at t) fby.Post
+  fby-unknown-requires c κs = search needs
+
+  fby-returns-2 : fby-lts.Need-returns-2 (fby-calls t) (fby-at t) fby.Post
+  fby-returns-2 c =
+      let left = c .before .before .before in
+      let test = left .before in
+      let b = test .before .before .before .before in
+      λ t p. unknown (c .unknown .ensures)
+      (fby-unknown p (b .args .fresh) (b .pre .1 .1) (sym (test .before .is-seen .ensures) ∙ test .if1 .left)
+      (left .value-expression .ensures) (not-true _ (c .before .if2 .taken)))
+
+  fby-skip-requires-3 : fby-lts.Need-skip-requires-3 (fby-calls t) (fby-at t) fby.Post
+  fby-skip-requires-3 c κs =
+      let left = c .before .before in
+      let b = left .before .before .before .before .before in
+      let p = b .pre .1 .0 .1 in
+      let w = fby-view p (b .pre .1 .1) in
+      readable p (after-value p (w .first) (left .value-expression .ensures) (not-false _ (c .if2 .left)) (w .second))
+
+  fby-returns-3 : fby-lts.Need-returns-3 (fby-calls t) (fby-at t) fby.Post
+  fby-returns-3 c =
+      let left = c .before .before .before in
+      let test = left .before in
+      let b = test .before .before .before .before in
+      λ t p. fby-answer-left p (b .args .fresh) (b .pre .1 .1) (sym (test .before .is-seen .ensures) ∙ test .if1 .left)
+      (left .value-expression .ensures) (not-false _ (c .before .if2 .left)) (c .skip3 .ensures)
+
+  operation-shared-slice-read-kind : operation-lts.Need-shared-slice-read-kind (operation-calls t) (operation-at t) operation.Post
+  operation-shared-slice-read-kind c = opened (c .before .before .pre .1 .0 .1) .good .starts
+
+  operation-sub-below : operation-lts.Need-sub-below (operation-calls t) (operation-at t) operation.Post
+  operation-sub-below c = opened (c .before .before .pre .1 .0 .1) .level-left
+
+  operation-add-first : operation-lts.Need-add-first (operation-calls t) (operation-at t) operation.Post
+  operation-add-first c = omega (arith, opened (c .before .before .pre .1 .0 .1) .good .starts)
+
+  operation-value-expression-requires :
+      operation-lts.Need-value-expression-requires (operation-calls t) (operation-at t) operation.Post
+  operation-value-expression-requires c κs =
+      let b = c .before .before in
+      let p = b .pre .1 .0 .1 in
+      let first = operation-first p _ (own-types p) (b .pre .1 .1 .0) (b .pre .1 .1 .1) in
+      (omega (arith, b .pre .0, opened p .level-left), (_, placed p first))
+
+  operation-unknown-requires : operation-lts.Need-unknown-requires (operation-calls t) (operation-at t) operation.Post
+  operation-unknown-requires c κs = search needs
+
+  operation-returns : operation-lts.Need-returns (operation-calls t) (operation-at t) operation.Post
+  operation-returns c =
+      let left = c .before .before .before in
+      let b = left .before .before .before in
+      λ t p. unknown (c .unknown .ensures)
+      (operation-unknown p (b .args .fresh) (left .value-expression .ensures) (b .pre .1 .1 .0) (b .pre .1 .1 .1)
+      (not-true _ (c .before .if1 .taken)))
+
+  operation-unary-requires : operation-lts.Need-unary-requires (operation-calls t) (operation-at t) operation.Post
+  operation-unary-requires c κs = search needs
+
+  operation-returns-2 : operation-lts.Need-returns-2 (operation-calls t) (operation-at t) operation.Post
+  operation-returns-2 c =
+      let left = c .before .before .before .before in
+      let b = left .before .before .before in
+      λ t p. unary-answer p (b .args .fresh) (left .value-expression .ensures) (b .pre .1 .1 .0) (c .before .if2 .taken)
+      (not-false _ (c .before .before .if1 .left)) (c .unary .ensures)
+
+  operation-value-expression-requires-2 :
+      operation-lts.Need-value-expression-requires-2 (operation-calls t) (operation-at t) operation.Post
+  operation-value-expression-requires-2 c κs =
+      let left = c .before .before .before in
+      let b = left .before .before .before in
+      let p = b .pre .1 .0 .1 in
+      let w = binary-view p _ (own-types p) (omega (arith, c .if2 .left)) (b .pre .1 .1 .1) in
+      let second = after-value p (w .first) (left .value-expression .ensures) (not-false _ (c .before .if1 .left)) (w .second) in
+      (omega (arith, b .pre .0, opened p .level-left), (_, placed p second))
+
+  operation-binary-requires : operation-lts.Need-binary-requires (operation-calls t) (operation-at t) operation.Post
+  operation-binary-requires c κs = search needs
+
+  operation-returns-3 : operation-lts.Need-returns-3 (operation-calls t) (operation-at t) operation.Post
+  operation-returns-3 c =
+      let right = c .before in
+      let left = right .before .before .before .before in
+      let b = left .before .before .before in
+      λ t p. binary-answer p (b .args .fresh) (left .value-expression .ensures) (omega (arith, right .before .if2 .left)) (b .pre .1 .1 .1)
+      (not-false _ (right .before .before .if1 .left)) (right .value-expression2 .ensures) (c .binary .ensures)
+
+  present-sub-below : present-lts.Need-sub-below (present-calls t) (present-at t) present.Post
+  present-sub-below c = opened (c .before .pre .1 .0 .1) .level-left
+
+  present-add-first : present-lts.Need-add-first (present-calls t) (present-at t) present.Post
+  present-add-first c = omega (arith, opened (c .before .pre .1 .0 .1) .good .starts)
+
+  present-value-expression-requires : present-lts.Need-value-expression-requires (present-calls t) (present-at t) present.Post
+  present-value-expression-requires c κs =
+      let b = c .before in
+      let p = b .pre .1 .0 .1 in
+      (omega (arith, b .pre .0, opened p .level-left), (_, placed p (present-view p (b .pre .1 .1) .first)))
+
+  present-unknown-requires : present-lts.Need-unknown-requires (present-calls t) (present-at t) present.Post
+  present-unknown-requires c κs = search needs
+
+  present-returns : present-lts.Need-returns (present-calls t) (present-at t) present.Post
+  present-returns c =
+      let condition = c .before .before .before in
+      let b = condition .before .before in
+      λ t p. unknown (c .unknown .ensures)
+      (present-unknown p (b .args .fresh) (b .pre .1 .1) (condition .value-expression .ensures) (not-true _ (c .before .if1 .taken)))
+
+  present-value-by-kind-requires : present-lts.Need-value-by-kind-requires (present-calls t) (present-at t) present.Post
+  present-value-by-kind-requires c κs =
+      let test = c .before .before in
+      let condition = test .before .before in
+      let b = condition .before .before in
+      let p = b .pre .1 .0 .1 in
+      let w = present-view p (b .pre .1 .1) in
+      let second = after-value p (w .first) (condition .value-expression .ensures) (not-false _ (test .if1 .left)) (w .second) in
+      (omega (arith, b .pre .0, opened p .level-left), (_, placed p second))
+
+  present-unknown-requires-2 : present-lts.Need-unknown-requires-2 (present-calls t) (present-at t) present.Post
+  present-unknown-requires-2 c κs = search needs
+
+  present-returns-2 : present-lts.Need-returns-2 (present-calls t) (present-at t) present.Post
+  present-returns-2 c =
+      let yes = c .before .before .before in
+      let test = yes .before .before .before in
+      let condition = test .before .before in
+      let b = condition .before .before in
+      λ t p. unknown (c .unknown2 .ensures)
+      (present-unknown-arm p (b .args .fresh) (b .pre .1 .1) (condition .value-expression .ensures) (not-false _ (test .if1 .left))
+      (yes .before .if2 .taken) (yes .value-by-kind .ensures) (not-true _ (c .before .if3 .taken)))
+
+  present-skip-requires : present-lts.Need-skip-requires (present-calls t) (present-at t) present.Post
+  present-skip-requires c κs =
+      let yes = c .before .before in
+      let test = yes .before .before .before in
+      let condition = test .before .before in
+      let b = condition .before .before in
+      let p = b .pre .1 .0 .1 in
+      let w = present-view p (b .pre .1 .1) in
+      let second = after-value p (w .first) (condition .value-expression .ensures) (not-false _ (test .if1 .left)) (w .second) in
+      readable p (after-value p second (yes .value-by-kind .ensures) (not-false _ (c .if3 .left)) (w .third))
+
+  present-returns-3 : present-lts.Need-returns-3 (present-calls t) (present-at t) present.Post
+  present-returns-3 c =
+      let yes = c .before .before .before in
+      let test = yes .before .before .before in
+      let condition = test .before .before in
+      let b = condition .before .before in
+      λ t p. present-answer-first p (b .args .fresh) (b .pre .1 .1) (condition .value-expression .ensures) (not-false _ (test .if1 .left))
+      (yes .before .if2 .taken) (yes .value-by-kind .ensures) (not-false _ (c .before .if3 .left)) (c .skip .ensures)
+
+  present-skip-requires-2 : present-lts.Need-skip-requires-2 (present-calls t) (present-at t) present.Post
+  present-skip-requires-2 c κs =
+      let test = c .before .before in
+      let condition = test .before .before in
+      let b = condition .before .before in
+      let p = b .pre .1 .0 .1 in
+      let w = present-view p (b .pre .1 .1) in
+      readable p (after-value p (w .first) (condition .value-expression .ensures) (not-false _ (test .if1 .left)) (w .second))
+
+  present-value-by-kind-requires-2 : present-lts.Need-value-by-kind-requires-2 (present-calls t) (present-at t) present.Post
+  present-value-by-kind-requires-2 c κs =
+      let test = c .before .before .before in
+      let condition = test .before .before in
+      let b = condition .before .before in
+      let p = b .pre .1 .0 .1 in
+      let w = present-view p (b .pre .1 .1) in
+      let second = after-value p (w .first) (condition .value-expression .ensures) (not-false _ (test .if1 .left)) (w .second) in
+      (omega (arith, b .pre .0, opened p .level-left), (_, placed p (after-walk p second (c .skip2 .ensures) (w .third))))
+
+  present-returns-4 : present-lts.Need-returns-4 (present-calls t) (present-at t) present.Post
+  present-returns-4 c =
+      let yes = c .before in
+      let test = yes .before .before .before in
+      let condition = test .before .before in
+      let b = condition .before .before in
+      λ t p. present-answer-second p (b .args .fresh) (b .pre .1 .1) (condition .value-expression .ensures) (not-false _ (test .if1 .left))
+      (yes .before .if2 .left) (yes .skip2 .ensures) (c .value-by-kind2 .ensures)
+
+  reset-sub-below : reset-lts.Need-sub-below (reset-calls t) (reset-at t) reset.Post
+  reset-sub-below c = opened (c .before .pre .1 .0 .1) .level-left
+
+  reset-add-first : reset-lts.Need-add-first (reset-calls t) (reset-at t) reset.Post
+  reset-add-first c = omega (arith, opened (c .before .pre .1 .0 .1) .good .starts)
+
+  reset-value-expression-requires : reset-lts.Need-value-expression-requires (reset-calls t) (reset-at t) reset.Post
+  reset-value-expression-requires c κs =
+      let b = c .before in
+      let p = b .pre .1 .0 .1 in
+      (omega (arith, b .pre .0, opened p .level-left), (_, placed p (reset-view p (b .pre .1 .1) .first)))
+
+  reset-unknown-requires : reset-lts.Need-unknown-requires (reset-calls t) (reset-at t) reset.Post
+  reset-unknown-requires c κs = search needs
+
+  reset-returns : reset-lts.Need-returns (reset-calls t) (reset-at t) reset.Post
+  reset-returns c =
+      let condition = c .before .before .before in
+      let b = condition .before .before in
+      λ t p. unknown (c .unknown .ensures)
+      (reset-unknown p (b .args .fresh) (b .pre .1 .1) (condition .value-expression .ensures) (not-true _ (c .before .if1 .taken)))
+
+  reset-value-by-kind-requires : reset-lts.Need-value-by-kind-requires (reset-calls t) (reset-at t) reset.Post
+  reset-value-by-kind-requires c κs =
+      let test = c .before in
+      let condition = test .before .before in
+      let b = condition .before .before in
+      let p = b .pre .1 .0 .1 in
+      let w = reset-view p (b .pre .1 .1) in
+      let second = after-value p (w .first) (condition .value-expression .ensures) (not-false _ (test .if1 .left)) (w .second) in
+      (omega (arith, b .pre .0, opened p .level-left), (_, placed p second))
+
+  reset-returns-2 : reset-lts.Need-returns-2 (reset-calls t) (reset-at t) reset.Post
+  reset-returns-2 c =
+      let test = c .before .before in
+      let condition = test .before .before in
+      let b = condition .before .before in
+      λ t p. reset-answer p (b .args .fresh) (b .pre .1 .1) (condition .value-expression .ensures) (not-false _ (test .if1 .left))
+      (c .value-by-kind .ensures)
 
 pub +value-by-kind+value-conditional+value-expression+value-fby+value-operation+value-present+value-reset-spec : {M : Type 1} → statement M
 +value-by-kind+value-conditional+value-expression+value-fby+value-operation+value-present+value-reset-spec =
@@ -579,25 +619,26 @@ pub +value-by-kind+value-conditional+value-expression+value-fby+value-operation+
     (by-kind-returns-3 t) (by-kind-returns-4 t) (by-kind-returns-5 t) (by-kind-returns-6 t) (by-kind-returns-7 t))
     (λ t. conditional-lts.spec (conditional-calls t) (conditional-at t) conditional.Post
     (conditional-sub-below t) (conditional-add-first t) (conditional-value-expression-requires t)
-    (conditional-value-expression-requires-2 t) (conditional-value-expression-requires-3 t) (conditional-conditional-requires t)
-    (conditional-returns t))
+    (conditional-unknown-requires t) (conditional-returns t) (conditional-value-expression-requires-2 t)
+    (conditional-unknown-requires-2 t) (conditional-returns-2 t) (conditional-value-expression-requires-3 t)
+    (conditional-choose-requires t) (conditional-returns-3 t))
     (λ t. expression-lts.spec (expression-calls t) (expression-at t) expression.Post
     (expression-shared-slice-read-if1 t) (expression-value-leaf-requires t) (expression-returns t)
     (expression-value-by-kind-requires t) (expression-returns-2 t))
     (λ t. fby-lts.spec (fby-calls t) (fby-at t) fby.Post
-    (fby-sub-below t) (fby-add-first t) (fby-add-inner t) (fby-cell-at-requires t) (fby-started-requires t)
-    (fby-enum-known-seen t) (fby-enum-told t) (fby-value-expression-requires t) (fby-skip-requires t) (fby-returns t)
-    (fby-skip-requires-2 t) (fby-skip-requires-3 t) (fby-returns-2 t))
+    (fby-sub-below t) (fby-add-first t) (fby-add-inner t) (fby-is-seen-requires t) (fby-skip-requires t)
+    (fby-skip-requires-2 t) (fby-word-in-requires t) (fby-returns t) (fby-value-expression-requires t)
+    (fby-unknown-requires t) (fby-returns-2 t) (fby-skip-requires-3 t) (fby-returns-3 t))
     (λ t. operation-lts.spec (operation-calls t) (operation-at t) operation.Post
-    (operation-shared-slice-read-kind t) (operation-operation-type-requires t) (operation-sub-below t) (operation-add-first t)
-    (operation-value-expression-requires t) (operation-unary-requires t)
-    (operation-returns t) (operation-value-expression-requires-2 t)
-    (operation-binary-requires t) (operation-returns-2 t))
+    (operation-shared-slice-read-kind t) (operation-sub-below t) (operation-add-first t)
+    (operation-value-expression-requires t) (operation-unknown-requires t) (operation-returns t)
+    (operation-unary-requires t) (operation-returns-2 t) (operation-value-expression-requires-2 t)
+    (operation-binary-requires t) (operation-returns-3 t))
     (λ t. present-lts.spec (present-calls t) (present-at t) present.Post
-    (present-sub-below t) (present-add-first t) (present-value-expression-requires t) (present-is-true-requires t)
-    (present-value-by-kind-requires t) (present-skip-requires t) (present-returns t) (present-skip-requires-2 t)
-    (present-is-unknown-requires t) (present-skip-requires-3 t) (present-returns-2 t) (present-value-by-kind-requires-2 t)
-    (present-returns-3 t))
+    (present-sub-below t) (present-add-first t) (present-value-expression-requires t) (present-unknown-requires t)
+    (present-returns t) (present-value-by-kind-requires t) (present-unknown-requires-2 t) (present-returns-2 t)
+    (present-skip-requires t) (present-returns-3 t) (present-skip-requires-2 t) (present-value-by-kind-requires-2 t)
+    (present-returns-4 t))
     (λ t. reset-lts.spec (reset-calls t) (reset-at t) reset.Post
-    (reset-sub-below t) (reset-add-first t) (reset-value-expression-requires t) (reset-is-unknown-requires t)
-    (reset-skip-requires t) (reset-returns t) (reset-is-true-requires t) (reset-value-by-kind-requires t) (reset-returns-2 t))
+    (reset-sub-below t) (reset-add-first t) (reset-value-expression-requires t) (reset-unknown-requires t) (reset-returns t)
+    (reset-value-by-kind-requires t) (reset-returns-2 t))

@@ -11,41 +11,43 @@ use Rattle.instant.proofs.store.store.Statement.{statement}
 use Rattle.instant.proofs.store.store.Tie as tie
 
 abbrev Inv-loop : tie.InvT-loop
-Inv-loop sheet memory₀ t3 types places firsts known words input w₀ memory w =
+Inv-loop sheet memory₀ types places firsts words w₀ memory w =
     (w ≤ length types) × (length memory ≡ length memory₀)
-    × ((f : Settled sheet memory₀ t3 types places firsts (known .bits) words) → Stored f w memory)
+    × ((f : Settled sheet memory₀ types places firsts words) → Stored f w memory)
 
 abbrev μ-loop : tie.MeasureT-loop
-μ-loop sheet memory₀ t3 types places firsts known words input w₀ memory w = length types - w
+μ-loop sheet memory₀ types places firsts words w₀ memory w = length types - w
 
 loop-holds : tie.Need-loop-holds Inv-loop μ-loop
 loop-holds c = (omega arith, refl, λ f. unstored f)
 
 may-own-requires : tie.Need-may-own-requires Inv-loop μ-loop
-may-own-requires c κs = (omega arith, c .before .before .before .before .before .before .pre .running .few)
+may-own-requires c κs = (omega arith, c .before .before .before .before .before .pre .running .few)
 
 mul-place : tie.Need-mul-place Inv-loop μ-loop
 mul-place c = search needs
 
 element-copy-out-place : tie.Need-element-copy-out-place Inv-loop μ-loop
-element-copy-out-place c = omega (arith, c .before .before .before .before .before .before .before .before .pre .running .few)
+element-copy-out-place c = omega (arith, c .before .before .before .before .before .before .before .pre .running .few)
 
 place-requires : tie.Need-place-requires Inv-loop μ-loop
 place-requires c κs = search needs
 
-element-copy-out-first : tie.Need-element-copy-out-first Inv-loop μ-loop
-element-copy-out-first c = omega (arith, c .before .before .before .before .before .before .before .before .before .before .pre .running .few)
+element-copy-out-length-of : tie.Need-element-copy-out-length-of Inv-loop μ-loop
+element-copy-out-length-of c = omega (arith, c .before .before .before .before .before .before .before .before .before .pre .running .few)
 
-first-requires : tie.Need-first-requires Inv-loop μ-loop
-first-requires c κs = search needs
+length-of-requires : tie.Need-length-of-requires Inv-loop μ-loop
+length-of-requires c κs = search needs
 
 shared-slice-read-advance-expression : tie.Need-shared-slice-read-advance-expression Inv-loop μ-loop
 shared-slice-read-advance-expression c = omega arith
 
 advance-expression-requires : tie.Need-advance-expression-requires Inv-loop μ-loop
 advance-expression-requires c κs =
-    let f = c .before .before .before .before .before .before .before .before .before .before .before .before .before .before .before .pre in
-    ready f (c .before .before .before .before .before .before .before .before .before .before .loop .inv .2 f) (c .before .before .before .before .before .before .before .before .before .loop-test .taken) (c .before .before .before .before .before .place .ensures) (c .before .before .before .first .ensures)
+    let test = c .before .before .before .before .before .before .before .before in
+    let f = c .before .before .before .before .before .before .before .before .before .before .before .before .before .pre in
+    ready f (test .before .loop .inv .2 f) (test .loop-test .taken) (c .before .before .before .before .place .ensures)
+    (c .before .before .length-of .ensures .0)
 
 add-w : tie.Need-add-w Inv-loop μ-loop
 add-w c = omega arith
@@ -58,11 +60,11 @@ loop-again c =
     let l = c .before .before .before .loop in
     let more = c .before .before .loop-test .taken in (
       omega arith,
-      ⊎-elim (λ w. ap length (w .11) ∙ w .8 .kept .1 .1 .0) (λ w. ap length (w .1)) (c .if1 .came) ∙ l .inv .1,
+      ⊎-elim (λ w. ap length (w .10) ∙ w .7 .kept .1 .0) (λ w. ap length (w .1)) (c .if1 .came) ∙ l .inv .1,
       λ f.
           ⊎-elim
-          (λ w. rw (w .11) (one-stored f (l .inv .2 f) more (w .2 .ensures) (w .4 .ensures) (w .8 .result)
-          (w .8 .ensures (ready f (l .inv .2 f) more (w .2 .ensures) (w .4 .ensures)))))
+          (λ w. rw (w .10) (one-stored f (l .inv .2 f) more (w .2 .ensures) (w .4 .ensures .0) (w .7 .result)
+          (w .7 .ensures (ready f (l .inv .2 f) more (w .2 .ensures) (w .4 .ensures .0)))))
           (λ w. rw (w .1) (none-stored f (l .inv .2 f) (c .before .may-own .ensures (w .0 .left))))
           (c .if1 .came),
     )
@@ -84,8 +86,8 @@ store-spec =
     mul-place
     element-copy-out-place
     place-requires
-    element-copy-out-first
-    first-requires
+    element-copy-out-length-of
+    length-of-requires
     shared-slice-read-advance-expression
     advance-expression-requires
     add-w

@@ -1,7 +1,7 @@
 -- The functions that advance an expression meet their contracts. The level falls from an expression to its operands; an expression
 -- goes by its kind at the same level, if it is no leaf.
 use Prim.Native.Nat.{ℕ, _<_, _+_, _*_}
-use mathlib.Core.Path.{sym, _∙_}
+use mathlib.Core.Path.{_∙_}
 use native.Mathlib.Omega.{arith}
 use borrow.Author.Needs.{needs}
 use borrow.Fn.Kinds.{In}
@@ -36,110 +36,105 @@ use Rattle.storing.proofs.advance.+advance_by_kind+advance_conditional+
 use Rattle.storing.proofs.advance.advance_reset.Reads as reset
 use Rattle.storing.proofs.advance.advance_reset.Kinds as reset-kinds
 use Rattle.storing.proofs.advance.+advance_by_kind+advance_conditional+advance_expression+advance_fby+advance_operation+advance_pre+advance_present+advance_reset.Lts-advance_reset as reset-lts
-use Rattle.expression.proofs.leaf.value_leaf.Reads as value-leaf-reads
+use Rattle.expression.proofs.cells.is_seen.Reads as is-seen-reads
+use Rattle.expression.proofs.cells.pre_word.Reads as pre-word-reads
 use Rattle.operations.proofs.binary.Reads as binary-reads
-use Rattle.operations.proofs.conditional.Reads as conditional-reads
-use Rattle.operations.proofs.datum_in.Reads as datum-in-reads
-use Rattle.operations.proofs.held.Reads as held-reads
-use Rattle.operations.proofs.is_true.Reads as is-true-reads
-use Rattle.operations.proofs.started.Reads as started-reads
+use Rattle.operations.proofs.choose.Reads as choose-reads
 use Rattle.operations.proofs.unary.Reads as unary-reads
-use Rattle.sheet.proofs.bodies.body_at.Reads as body-at-reads
 use Rattle.sheet.proofs.data.datum_of.Reads as datum-of-reads
 use Rattle.sheet.proofs.kinds.body.Reads as body-reads
 use Rattle.sheet.proofs.kinds.operation_type.Reads as operation-type-reads
-use Rattle.sheet.proofs.memory.cell_at.Reads as cell-at-reads
 use Rattle.sheet.proofs.memory.put_cell.Reads as put-cell-reads
-use Rattle.storing.proofs.advance.held_or.Reads as held-or-reads
-use Rattle.storing.proofs.advance.under.Reads as under-reads
+use Rattle.sheet.proofs.memory.word_in.Reads as word-in-reads
+use Rattle.storing.proofs.advance.advance_leaf.Reads as leaf-reads
 use Rattle.storing.proofs.rest.rest.Reads as rest-reads
 use Rattle.storing.proofs.advance.+advance_by_kind+advance_conditional+advance_expression+advance_fby+advance_operation+advance_pre+advance_present+advance_reset.{statement}
 use Rattle.storing.proofs.advance.+advance_by_kind+advance_conditional+advance_expression+advance_fby+advance_operation+advance_pre+advance_present+advance_reset.Tie.{close}
 
-abbrev μ-by-kind : Measures 5 by-kind-kinds.ps ℕ
-μ-by-kind κs a = 3 * a .1 .1 .1 .1 .1 .0 + 1
+abbrev μ-by-kind : Measures 3 by-kind-kinds.ps ℕ
+μ-by-kind κs a = 3 * a .1 .1 .1 .0 + 1
 
-abbrev μ-conditional : Measures 5 conditional-kinds.ps ℕ
-μ-conditional κs a = 3 * a .1 .1 .1 .1 .1 .0
+abbrev μ-conditional : Measures 3 conditional-kinds.ps ℕ
+μ-conditional κs a = 3 * a .1 .1 .1 .0
 
-abbrev μ-expression : Measures 5 expression-kinds.ps ℕ
-μ-expression κs a = 3 * a .1 .1 .1 .1 .1 .0 + 2
+abbrev μ-expression : Measures 3 expression-kinds.ps ℕ
+μ-expression κs a = 3 * a .1 .1 .1 .0 + 2
 
-abbrev μ-fby : Measures 5 fby-kinds.ps ℕ
-μ-fby κs a = 3 * a .1 .1 .1 .1 .1 .0
+abbrev μ-fby : Measures 3 fby-kinds.ps ℕ
+μ-fby κs a = 3 * a .1 .1 .1 .0
 
-abbrev μ-operation : Measures 5 operation-kinds.ps ℕ
-μ-operation κs a = 3 * a .1 .1 .1 .1 .1 .0
+abbrev μ-operation : Measures 3 operation-kinds.ps ℕ
+μ-operation κs a = 3 * a .1 .1 .1 .0
 
-abbrev μ-pre : Measures 5 pre-kinds.ps ℕ
-μ-pre κs a = 3 * a .1 .1 .1 .1 .1 .0
+abbrev μ-pre : Measures 3 pre-kinds.ps ℕ
+μ-pre κs a = 3 * a .1 .1 .1 .0
 
-abbrev μ-present : Measures 5 present-kinds.ps ℕ
-μ-present κs a = 3 * a .1 .1 .1 .1 .1 .0
+abbrev μ-present : Measures 3 present-kinds.ps ℕ
+μ-present κs a = 3 * a .1 .1 .1 .0
 
-abbrev μ-reset : Measures 5 reset-kinds.ps ℕ
-μ-reset κs a = 3 * a .1 .1 .1 .1 .1 .0
+abbrev μ-reset : Measures 3 reset-kinds.ps ℕ
+μ-reset κs a = 3 * a .1 .1 .1 .0
 
-abbrev by-kind-at : ℕ → In 5 by-kind-kinds.ps
-by-kind-at t = and 5 by-kind-kinds.ps (is 5 by-kind-kinds.ps μ-by-kind t) by-kind.Pre
+abbrev by-kind-at : ℕ → In 3 by-kind-kinds.ps
+by-kind-at t = and 3 by-kind-kinds.ps (is 3 by-kind-kinds.ps μ-by-kind t) by-kind.Pre
 
-abbrev by-kind-below : ℕ → In 5 by-kind-kinds.ps
-by-kind-below t = and 5 by-kind-kinds.ps (falls 5 by-kind-kinds.ps _<_ μ-by-kind t) by-kind.Pre
+abbrev by-kind-below : ℕ → In 3 by-kind-kinds.ps
+by-kind-below t = and 3 by-kind-kinds.ps (falls 3 by-kind-kinds.ps _<_ μ-by-kind t) by-kind.Pre
 
-abbrev conditional-at : ℕ → In 5 conditional-kinds.ps
-conditional-at t = and 5 conditional-kinds.ps (is 5 conditional-kinds.ps μ-conditional t) conditional.Pre
+abbrev conditional-at : ℕ → In 3 conditional-kinds.ps
+conditional-at t = and 3 conditional-kinds.ps (is 3 conditional-kinds.ps μ-conditional t) conditional.Pre
 
-abbrev conditional-below : ℕ → In 5 conditional-kinds.ps
-conditional-below t = and 5 conditional-kinds.ps (falls 5 conditional-kinds.ps _<_ μ-conditional t) conditional.Pre
+abbrev conditional-below : ℕ → In 3 conditional-kinds.ps
+conditional-below t = and 3 conditional-kinds.ps (falls 3 conditional-kinds.ps _<_ μ-conditional t) conditional.Pre
 
-abbrev expression-at : ℕ → In 5 expression-kinds.ps
-expression-at t = and 5 expression-kinds.ps (is 5 expression-kinds.ps μ-expression t) expression.Pre
+abbrev expression-at : ℕ → In 3 expression-kinds.ps
+expression-at t = and 3 expression-kinds.ps (is 3 expression-kinds.ps μ-expression t) expression.Pre
 
-abbrev expression-below : ℕ → In 5 expression-kinds.ps
-expression-below t = and 5 expression-kinds.ps (falls 5 expression-kinds.ps _<_ μ-expression t) expression.Pre
+abbrev expression-below : ℕ → In 3 expression-kinds.ps
+expression-below t = and 3 expression-kinds.ps (falls 3 expression-kinds.ps _<_ μ-expression t) expression.Pre
 
-abbrev fby-at : ℕ → In 5 fby-kinds.ps
-fby-at t = and 5 fby-kinds.ps (is 5 fby-kinds.ps μ-fby t) fby.Pre
+abbrev fby-at : ℕ → In 3 fby-kinds.ps
+fby-at t = and 3 fby-kinds.ps (is 3 fby-kinds.ps μ-fby t) fby.Pre
 
-abbrev fby-below : ℕ → In 5 fby-kinds.ps
-fby-below t = and 5 fby-kinds.ps (falls 5 fby-kinds.ps _<_ μ-fby t) fby.Pre
+abbrev fby-below : ℕ → In 3 fby-kinds.ps
+fby-below t = and 3 fby-kinds.ps (falls 3 fby-kinds.ps _<_ μ-fby t) fby.Pre
 
-abbrev operation-at : ℕ → In 5 operation-kinds.ps
-operation-at t = and 5 operation-kinds.ps (is 5 operation-kinds.ps μ-operation t) operation.Pre
+abbrev operation-at : ℕ → In 3 operation-kinds.ps
+operation-at t = and 3 operation-kinds.ps (is 3 operation-kinds.ps μ-operation t) operation.Pre
 
-abbrev operation-below : ℕ → In 5 operation-kinds.ps
-operation-below t = and 5 operation-kinds.ps (falls 5 operation-kinds.ps _<_ μ-operation t) operation.Pre
+abbrev operation-below : ℕ → In 3 operation-kinds.ps
+operation-below t = and 3 operation-kinds.ps (falls 3 operation-kinds.ps _<_ μ-operation t) operation.Pre
 
-abbrev pre-at : ℕ → In 5 pre-kinds.ps
-pre-at t = and 5 pre-kinds.ps (is 5 pre-kinds.ps μ-pre t) pre.Pre
+abbrev pre-at : ℕ → In 3 pre-kinds.ps
+pre-at t = and 3 pre-kinds.ps (is 3 pre-kinds.ps μ-pre t) pre.Pre
 
-abbrev pre-below : ℕ → In 5 pre-kinds.ps
-pre-below t = and 5 pre-kinds.ps (falls 5 pre-kinds.ps _<_ μ-pre t) pre.Pre
+abbrev pre-below : ℕ → In 3 pre-kinds.ps
+pre-below t = and 3 pre-kinds.ps (falls 3 pre-kinds.ps _<_ μ-pre t) pre.Pre
 
-abbrev present-at : ℕ → In 5 present-kinds.ps
-present-at t = and 5 present-kinds.ps (is 5 present-kinds.ps μ-present t) present.Pre
+abbrev present-at : ℕ → In 3 present-kinds.ps
+present-at t = and 3 present-kinds.ps (is 3 present-kinds.ps μ-present t) present.Pre
 
-abbrev present-below : ℕ → In 5 present-kinds.ps
-present-below t = and 5 present-kinds.ps (falls 5 present-kinds.ps _<_ μ-present t) present.Pre
+abbrev present-below : ℕ → In 3 present-kinds.ps
+present-below t = and 3 present-kinds.ps (falls 3 present-kinds.ps _<_ μ-present t) present.Pre
 
-abbrev reset-at : ℕ → In 5 reset-kinds.ps
-reset-at t = and 5 reset-kinds.ps (is 5 reset-kinds.ps μ-reset t) reset.Pre
+abbrev reset-at : ℕ → In 3 reset-kinds.ps
+reset-at t = and 3 reset-kinds.ps (is 3 reset-kinds.ps μ-reset t) reset.Pre
 
-abbrev reset-below : ℕ → In 5 reset-kinds.ps
-reset-below t = and 5 reset-kinds.ps (falls 5 reset-kinds.ps _<_ μ-reset t) reset.Pre
+abbrev reset-below : ℕ → In 3 reset-kinds.ps
+reset-below t = and 3 reset-kinds.ps (falls 3 reset-kinds.ps _<_ μ-reset t) reset.Pre
 
 abbrev conditional-calls : ℕ → conditional-lts.Claims
 conditional-calls t = (
   expression-below t,
   expression.Post,
-  conditional-reads.Asked,
-  conditional-reads.Learnt,
+  choose-reads.Asked,
+  choose-reads.Learnt,
 )
 
 abbrev expression-calls : ℕ → expression-lts.Claims
 expression-calls t = (
-  value-leaf-reads.Asked,
-  value-leaf-reads.Learnt,
+  leaf-reads.Asked,
+  leaf-reads.Learnt,
   by-kind-below t,
   by-kind.Post,
 )
@@ -152,8 +147,8 @@ by-kind-calls t = (
   present.Post,
   reset-below t,
   reset.Post,
-  value-leaf-reads.Asked,
-  value-leaf-reads.Learnt,
+  leaf-reads.Asked,
+  leaf-reads.Learnt,
   operation-below t,
   operation.Post,
   pre-below t,
@@ -164,18 +159,18 @@ by-kind-calls t = (
 
 abbrev fby-calls : ℕ → fby-lts.Claims
 fby-calls t = (
-  cell-at-reads.Asked,
-  cell-at-reads.Learnt,
-  started-reads.Asked,
-  started-reads.Learnt,
+  is-seen-reads.Asked,
+  is-seen-reads.Learnt,
+  word-in-reads.Asked,
+  word-in-reads.Learnt,
   expression-below t,
   expression.Post,
-  datum-in-reads.Asked,
-  datum-in-reads.Learnt,
+  datum-of-reads.Asked,
+  datum-of-reads.Learnt,
   put-cell-reads.Asked,
   put-cell-reads.Learnt,
-  held-or-reads.Asked,
-  held-or-reads.Learnt,
+  choose-reads.Asked,
+  choose-reads.Learnt,
 )
 
 abbrev operation-calls : ℕ → operation-lts.Claims
@@ -194,18 +189,12 @@ abbrev pre-calls : ℕ → pre-lts.Claims
 pre-calls t = (
   body-reads.Asked,
   body-reads.Learnt,
-  body-at-reads.Asked,
-  body-at-reads.Learnt,
-  datum-of-reads.Asked,
-  datum-of-reads.Learnt,
-  cell-at-reads.Asked,
-  cell-at-reads.Learnt,
-  held-reads.Asked,
-  held-reads.Learnt,
+  pre-word-reads.Asked,
+  pre-word-reads.Learnt,
   expression-below t,
   expression.Post,
-  datum-in-reads.Asked,
-  datum-in-reads.Learnt,
+  datum-of-reads.Asked,
+  datum-of-reads.Learnt,
   put-cell-reads.Asked,
   put-cell-reads.Learnt,
 )
@@ -214,26 +203,18 @@ abbrev present-calls : ℕ → present-lts.Claims
 present-calls t = (
   expression-below t,
   expression.Post,
-  is-true-reads.Asked,
-  is-true-reads.Learnt,
   by-kind-below t,
   by-kind.Post,
   rest-reads.Asked,
   rest-reads.Learnt,
-  under-reads.Asked,
-  under-reads.Learnt,
 )
 
 abbrev reset-calls : ℕ → reset-lts.Claims
 reset-calls t = (
   expression-below t,
   expression.Post,
-  is-true-reads.Asked,
-  is-true-reads.Learnt,
   by-kind-below t,
   by-kind.Post,
-  under-reads.Asked,
-  under-reads.Learnt,
 )
 
 module _ (t : ℕ) where
@@ -273,25 +254,25 @@ module _ (t : ℕ) where
             (first .advance-expression .ensures) (second .advance-expression2 .ensures),
       )
 
-  conditional-conditional-requires : conditional-lts.Need-conditional-requires (conditional-calls t) (conditional-at t) conditional.Post
-  conditional-conditional-requires c κs = search needs
+  conditional-choose-requires : conditional-lts.Need-choose-requires (conditional-calls t) (conditional-at t) conditional.Post
+  conditional-choose-requires c κs = search needs
 
   conditional-same-length : conditional-lts.Need-same-length (conditional-calls t) (conditional-at t) conditional.Post
   conditional-same-length c =
-      let third = c .before .before .before in
+      let third = c .before .before .before .before in
       let second = third .before .before .before .before in
       let first = second .before .before .before .before in
-      third .advance-expression3 .kept .1 .1 .0 ∙ second .advance-expression2 .kept .1 .1 .0 ∙ first .advance-expression .kept .1 .1 .0
+      third .advance-expression3 .kept .1 .0 ∙ second .advance-expression2 .kept .1 .0 ∙ first .advance-expression .kept .1 .0
 
   conditional-returns : conditional-lts.Need-returns (conditional-calls t) (conditional-at t) conditional.Post
   conditional-returns c =
-      let third = c .before .before .before in
+      let third = c .before .before .before .before in
       let second = third .before .before .before .before in
       let first = second .before .before .before .before in
       let start = first .before .before .before .before in
       λ p. conditional-advances p (start .args .fresh) (start .pre .1 .1)
       (first .advance-expression .ensures) (second .advance-expression2 .ensures) (third .advance-expression3 .ensures)
-      (c .conditional .ensures)
+      (c .choose .ensures)
 
   by-kind-shared-slice-read-match : by-kind-lts.Need-shared-slice-read-match (by-kind-calls t) (by-kind-at t) by-kind.Post
   by-kind-shared-slice-read-match c = opened (c .before .before .before .pre .1 .place) .good .starts
@@ -315,8 +296,8 @@ module _ (t : ℕ) where
       let start = by .before .before .before .before in
       (omega (arith, start .pre .0), (start .pre .1, by .match .keys3))
 
-  by-kind-value-leaf-requires : by-kind-lts.Need-value-leaf-requires (by-kind-calls t) (by-kind-at t) by-kind.Post
-  by-kind-value-leaf-requires c κs = leaf-of (c .before .before .before .before .before .pre .1 .place) (omega arith)
+  by-kind-advance-leaf-requires : by-kind-lts.Need-advance-leaf-requires (by-kind-calls t) (by-kind-at t) by-kind.Post
+  by-kind-advance-leaf-requires c κs = leaf-of (c .before .before .before .before .before .pre .1 .place) (omega arith)
 
   by-kind-advance-operation-requires :
       by-kind-lts.Need-advance-operation-requires (by-kind-calls t) (by-kind-at t) by-kind.Post
@@ -335,19 +316,19 @@ module _ (t : ℕ) where
       (omega (arith, start .pre .0), (start .pre .1, omega (arith, opened (start .pre .1 .place) .good .kind)))
 
   by-kind-same-length : by-kind-lts.Need-same-length (by-kind-calls t) (by-kind-at t) by-kind.Post
-  by-kind-same-length c = c .before .before .advance-conditional .kept .1 .1 .0
+  by-kind-same-length c = c .before .before .advance-conditional .kept .1 .0
 
   by-kind-returns : by-kind-lts.Need-returns (by-kind-calls t) (by-kind-at t) by-kind.Post
   by-kind-returns c = c .before .before .advance-conditional .ensures
 
   by-kind-same-length-2 : by-kind-lts.Need-same-length-2 (by-kind-calls t) (by-kind-at t) by-kind.Post
-  by-kind-same-length-2 c = c .before .before .advance-present .kept .1 .1 .0
+  by-kind-same-length-2 c = c .before .before .advance-present .kept .1 .0
 
   by-kind-returns-2 : by-kind-lts.Need-returns-2 (by-kind-calls t) (by-kind-at t) by-kind.Post
   by-kind-returns-2 c = c .before .before .advance-present .ensures
 
   by-kind-same-length-3 : by-kind-lts.Need-same-length-3 (by-kind-calls t) (by-kind-at t) by-kind.Post
-  by-kind-same-length-3 c = c .before .before .advance-reset .kept .1 .1 .0
+  by-kind-same-length-3 c = c .before .before .advance-reset .kept .1 .0
 
   by-kind-returns-3 : by-kind-lts.Need-returns-3 (by-kind-calls t) (by-kind-at t) by-kind.Post
   by-kind-returns-3 c = c .before .before .advance-reset .ensures
@@ -355,22 +336,22 @@ module _ (t : ℕ) where
   by-kind-returns-4 : by-kind-lts.Need-returns-4 (by-kind-calls t) (by-kind-at t) by-kind.Post
   by-kind-returns-4 c =
       let start = c .before .before .before .before .before .before in
-      λ p. leaf-advances p (start .args .fresh) (omega arith) (c .value-leaf .ensures)
+      λ p. leaf-advances p (start .args .fresh) (omega arith) (c .advance-leaf .ensures)
 
   by-kind-same-length-4 : by-kind-lts.Need-same-length-4 (by-kind-calls t) (by-kind-at t) by-kind.Post
-  by-kind-same-length-4 c = c .before .before .advance-operation .kept .1 .1 .0
+  by-kind-same-length-4 c = c .before .before .advance-operation .kept .1 .0
 
   by-kind-returns-5 : by-kind-lts.Need-returns-5 (by-kind-calls t) (by-kind-at t) by-kind.Post
   by-kind-returns-5 c = c .before .before .advance-operation .ensures
 
   by-kind-same-length-5 : by-kind-lts.Need-same-length-5 (by-kind-calls t) (by-kind-at t) by-kind.Post
-  by-kind-same-length-5 c = c .before .before .advance-pre .kept .1 .1 .0
+  by-kind-same-length-5 c = c .before .before .advance-pre .kept .1 .0
 
   by-kind-returns-6 : by-kind-lts.Need-returns-6 (by-kind-calls t) (by-kind-at t) by-kind.Post
   by-kind-returns-6 c = c .before .before .advance-pre .ensures
 
   by-kind-same-length-6 : by-kind-lts.Need-same-length-6 (by-kind-calls t) (by-kind-at t) by-kind.Post
-  by-kind-same-length-6 c = c .before .before .advance-fby .kept .1 .1 .0
+  by-kind-same-length-6 c = c .before .before .advance-fby .kept .1 .0
 
   by-kind-returns-7 : by-kind-lts.Need-returns-7 (by-kind-calls t) (by-kind-at t) by-kind.Post
   by-kind-returns-7 c = c .before .before .advance-fby .ensures
@@ -384,17 +365,19 @@ module _ (t : ℕ) where
   fby-add-inner : fby-lts.Need-add-inner (fby-calls t) (fby-at t) fby.Post
   fby-add-inner c = omega (arith, opened (c .before .before .pre .1 .0 .place) .good .cells)
 
-  fby-cell-at-requires : fby-lts.Need-cell-at-requires (fby-calls t) (fby-at t) fby.Post
-  fby-cell-at-requires c κs =
+  fby-is-seen-requires : fby-lts.Need-is-seen-requires (fby-calls t) (fby-at t) fby.Post
+  fby-is-seen-requires c κs =
       let start = c .before .before .before in
       own-cell (start .pre .1 .0 .place) (omega (arith, start .pre .1 .1)) .stands .fits
 
-  fby-started-requires : fby-lts.Need-started-requires (fby-calls t) (fby-at t) fby.Post
-  fby-started-requires c κs = search needs
+  fby-word-in-requires : fby-lts.Need-word-in-requires (fby-calls t) (fby-at t) fby.Post
+  fby-word-in-requires c κs =
+      let start = c .before .before .before .before .before in
+      own-cell (start .pre .1 .0 .place) (omega (arith, start .pre .1 .1)) .stands .fits
 
   fby-advance-expression-requires : fby-lts.Need-advance-expression-requires (fby-calls t) (fby-at t) fby.Post
   fby-advance-expression-requires c κs =
-      let start = c .before .before .before .before .before .before in
+      let start = c .before .before .before .before .before .before .before in
       let p = start .pre .1 .0 in
       let w = fby-view (p .place) (start .pre .1 .1) in
       (omega (arith, start .pre .0, opened (p .place) .level-left), two-ready p w)
@@ -402,31 +385,31 @@ module _ (t : ℕ) where
   fby-advance-expression-requires-2 : fby-lts.Need-advance-expression-requires-2 (fby-calls t) (fby-at t) fby.Post
   fby-advance-expression-requires-2 c κs =
       let first = c .before .before .before in
-      let start = first .before .before .before .before .before .before .before in
+      let start = first .before .before .before .before .before .before .before .before in
       let p = start .pre .1 .0 in
       let w = fby-view (p .place) (start .pre .1 .1) in
       (omega (arith, start .pre .0, opened (p .place) .level-left), two-ready-2 p w (first .advance-expression .ensures))
 
-  fby-datum-in-requires : fby-lts.Need-datum-in-requires (fby-calls t) (fby-at t) fby.Post
-  fby-datum-in-requires c κs = search needs
+  fby-datum-of-requires : fby-lts.Need-datum-of-requires (fby-calls t) (fby-at t) fby.Post
+  fby-datum-of-requires c κs = search needs
 
   fby-put-cell-requires : fby-lts.Need-put-cell-requires (fby-calls t) (fby-at t) fby.Post
   fby-put-cell-requires c κs =
       let second = c .before .before .before .before in
       let first = second .before .before .before .before in
-      let start = first .before .before .before .before .before .before .before in
+      let start = first .before .before .before .before .before .before .before .before in
       let own = own-cell (start .pre .1 .0 .place) (omega (arith, start .pre .1 .1)) in
-      omega (arith, own .stands .fits, second .advance-expression2 .kept .1 .1 .0, first .advance-expression .kept .1 .1 .0)
+      omega (arith, own .stands .fits, second .advance-expression2 .kept .1 .0, first .advance-expression .kept .1 .0)
 
-  fby-held-or-requires : fby-lts.Need-held-or-requires (fby-calls t) (fby-at t) fby.Post
-  fby-held-or-requires c κs = search needs
+  fby-choose-requires : fby-lts.Need-choose-requires (fby-calls t) (fby-at t) fby.Post
+  fby-choose-requires c κs = search needs
 
   fby-same-length : fby-lts.Need-same-length (fby-calls t) (fby-at t) fby.Post
   fby-same-length c =
       let put = c .before .before .before in
       let second = put .before .before .before .before .before in
       let first = second .before .before .before .before in
-      put .put-cell .kept .0 ∙ second .advance-expression2 .kept .1 .1 .0 ∙ first .advance-expression .kept .1 .1 .0
+      put .put-cell .kept .0 ∙ second .advance-expression2 .kept .1 .0 ∙ first .advance-expression .kept .1 .0
 
   fby-returns : fby-lts.Need-returns (fby-calls t) (fby-at t) fby.Post
   fby-returns c =
@@ -434,12 +417,12 @@ module _ (t : ℕ) where
       let datum = put .before in
       let second = datum .before .before .before .before in
       let first = second .before .before .before .before in
-      let seen = first .before .before in
-      let read = seen .before in
-      let start = read .before .before .before .before in
+      let kept = first .before .before in
+      let seen = kept .before .before in
+      let start = seen .before .before .before .before in
       λ p. fby-advances p (start .args .fresh) (start .pre .1 .1)
-      (read .cell-at .ensures) (seen .started .ensures) (first .advance-expression .ensures) (second .advance-expression2 .ensures)
-      (datum .datum-in .ensures) (put .put-cell .ensures) (c .held-or .ensures)
+      (seen .is-seen .ensures) (kept .word-in .ensures) (first .advance-expression .ensures) (second .advance-expression2 .ensures)
+      (datum .datum-of .ensures) (put .put-cell .ensures) (c .choose .ensures)
 
   operation-shared-slice-read-kind : operation-lts.Need-shared-slice-read-kind (operation-calls t) (operation-at t) operation.Post
   operation-shared-slice-read-kind c = opened (c .before .before .before .pre .1 .0 .place) .good .starts
@@ -466,7 +449,7 @@ module _ (t : ℕ) where
   operation-unary-requires c κs = search needs
 
   operation-same-length : operation-lts.Need-same-length (operation-calls t) (operation-at t) operation.Post
-  operation-same-length c = c .before .before .before .before .advance-expression .kept .1 .1 .0
+  operation-same-length c = c .before .before .before .before .advance-expression .kept .1 .0
 
   operation-returns : operation-lts.Need-returns (operation-calls t) (operation-at t) operation.Post
   operation-returns c =
@@ -495,7 +478,7 @@ module _ (t : ℕ) where
   operation-same-length-2 c =
       let second = c .before .before .before in
       let first = second .before .before .before .before .before in
-      second .advance-expression2 .kept .1 .1 .0 ∙ first .advance-expression .kept .1 .1 .0
+      second .advance-expression2 .kept .1 .0 ∙ first .advance-expression .kept .1 .0
 
   operation-returns-2 : operation-lts.Need-returns-2 (operation-calls t) (operation-at t) operation.Post
   operation-returns-2 c =
@@ -528,58 +511,47 @@ module _ (t : ℕ) where
   pre-add-inner : pre-lts.Need-add-inner (pre-calls t) (pre-at t) pre.Post
   pre-add-inner c = omega (arith, opened (c .before .before .before .before .pre .1 .0 .place) .good .cells)
 
-  pre-body-at-requires : pre-lts.Need-body-at-requires (pre-calls t) (pre-at t) pre.Post
-  pre-body-at-requires c κs = whole (c .before .before .before .before .pre .1 .0 .place)
-
-  pre-datum-of-requires : pre-lts.Need-datum-of-requires (pre-calls t) (pre-at t) pre.Post
-  pre-datum-of-requires c κs = search needs
-
-  pre-cell-at-requires : pre-lts.Need-cell-at-requires (pre-calls t) (pre-at t) pre.Post
-  pre-cell-at-requires c κs =
-      let start = c .before .before .before .before .before .before .before in
-      own-cell (start .pre .1 .0 .place) (start .pre .1 .1 .0) .stands .fits
-
-  pre-held-requires : pre-lts.Need-held-requires (pre-calls t) (pre-at t) pre.Post
-  pre-held-requires c κs = search needs
+  pre-pre-word-requires : pre-lts.Need-pre-word-requires (pre-calls t) (pre-at t) pre.Post
+  pre-pre-word-requires c κs =
+      let start = c .before .before .before .before .before in
+      let place = start .pre .1 .0 .place in
+      (whole place, own-cell place (start .pre .1 .1 .0) .stands .fits)
 
   pre-advance-expression-requires : pre-lts.Need-advance-expression-requires (pre-calls t) (pre-at t) pre.Post
   pre-advance-expression-requires c κs =
-      let body = c .before .before .before .before .before .before in
+      let body = c .before .before .before in
       let start = body .before .before .before .before in
       let p = start .pre .1 .0 in
       let w = pre-view (p .place) (start .pre .1 .1 .0) (start .pre .1 .1 .1) in
       (omega (arith, start .pre .0, opened (p .place) .level-left), rw (body .body .ensures) (one-ready p w))
 
-  pre-datum-in-requires : pre-lts.Need-datum-in-requires (pre-calls t) (pre-at t) pre.Post
-  pre-datum-in-requires c κs = search needs
+  pre-datum-of-requires : pre-lts.Need-datum-of-requires (pre-calls t) (pre-at t) pre.Post
+  pre-datum-of-requires c κs = search needs
 
   pre-put-cell-requires : pre-lts.Need-put-cell-requires (pre-calls t) (pre-at t) pre.Post
   pre-put-cell-requires c κs =
       let first = c .before .before .before .before in
-      let start = first .before .before .before .before .before .before .before .before .before .before .before in
+      let start = first .before .before .before .before .before .before .before .before in
       let own = own-cell (start .pre .1 .0 .place) (start .pre .1 .1 .0) in
-      omega (arith, own .stands .fits, first .advance-expression .kept .1 .1 .0)
+      omega (arith, own .stands .fits, first .advance-expression .kept .1 .0)
 
   pre-same-length : pre-lts.Need-same-length (pre-calls t) (pre-at t) pre.Post
   pre-same-length c =
       let put = c .before .before in
       let first = put .before .before .before .before .before in
-      put .put-cell .kept .0 ∙ first .advance-expression .kept .1 .1 .0
+      put .put-cell .kept .0 ∙ first .advance-expression .kept .1 .0
 
   pre-returns : pre-lts.Need-returns (pre-calls t) (pre-at t) pre.Post
   pre-returns c =
       let put = c .before .before in
       let datum = put .before in
       let first = datum .before .before .before .before in
-      let held = first .before .before in
-      let read = held .before in
-      let constant = read .before .before in
-      let number = constant .before in
-      let size = number .before in
+      let word = first .before .before in
+      let size = word .before .before in
       let start = size .before .before .before .before in
       λ p. pre-advances p (start .args .fresh) (start .pre .1 .1 .0) (start .pre .1 .1 .1)
-      (number .body-at .ensures) (size .body .ensures) (constant .datum-of .ensures) (read .cell-at .ensures) (held .held .ensures)
-      (first .advance-expression .ensures) (datum .datum-in .ensures) (put .put-cell .ensures)
+      (size .body .ensures) (word .pre-word .ensures) (first .advance-expression .ensures) (datum .datum-of .ensures)
+      (put .put-cell .ensures)
 
   present-sub-below : present-lts.Need-sub-below (present-calls t) (present-at t) present.Post
   present-sub-below c = opened (c .before .before .pre .1 .0 .place) .level-left
@@ -593,9 +565,6 @@ module _ (t : ℕ) where
       let p = start .pre .1 .0 in
       let w = present-view (p .place) (start .pre .1 .1) in
       (omega (arith, start .pre .0, opened (p .place) .level-left), three-ready p w)
-
-  present-is-true-requires : present-lts.Need-is-true-requires (present-calls t) (present-at t) present.Post
-  present-is-true-requires c κs = search needs
 
   present-advance-by-kind-requires : present-lts.Need-advance-by-kind-requires (present-calls t) (present-at t) present.Post
   present-advance-by-kind-requires c κs =
@@ -618,19 +587,17 @@ module _ (t : ℕ) where
       let third = c .before .before in
       let second = third .before .before .before .before in
       let first = second .before .before .before .before .before .before in
-      third .rest .kept .1 .1 .1 .1 .0 ∙ second .advance-by-kind .kept .1 .1 .0 ∙ first .advance-expression .kept .1 .1 .0
+      third .rest .kept .1 .1 .1 .1 .0 ∙ second .advance-by-kind .kept .1 .0 ∙ first .advance-expression .kept .1 .0
 
   present-returns : present-lts.Need-returns (present-calls t) (present-at t) present.Post
   present-returns c =
       let third = c .before .before in
       let second = third .before .before .before .before in
-      let taken = second .before .before in
-      let test = taken .before in
-      let first = test .before .before .before in
+      let test = second .before .before in
+      let first = test .before .before .before .before in
       let start = first .before .before .before .before in
       λ p. present-advances-first p (start .args .fresh) (start .pre .1 .1)
-      (first .advance-expression .ensures) (sym (test .is-true .ensures) ∙ taken .if1 .taken)
-      (second .advance-by-kind .ensures) (third .rest .ensures)
+      (first .advance-expression .ensures) (test .if1 .taken) (second .advance-by-kind .ensures) (third .rest .ensures)
 
   present-rest-requires-2 : present-lts.Need-rest-requires-2 (present-calls t) (present-at t) present.Post
   present-rest-requires-2 c κs =
@@ -651,27 +618,22 @@ module _ (t : ℕ) where
             (first .advance-expression .ensures) (second .rest2 .ensures),
       )
 
-  present-under-requires : present-lts.Need-under-requires (present-calls t) (present-at t) present.Post
-  present-under-requires c κs = search needs
-
   present-same-length-2 : present-lts.Need-same-length-2 (present-calls t) (present-at t) present.Post
   present-same-length-2 c =
-      let third = c .before .before .before in
+      let third = c .before .before in
       let second = third .before .before .before .before in
       let first = second .before .before .before .before .before .before in
-      third .advance-by-kind2 .kept .1 .1 .0 ∙ second .rest2 .kept .1 .1 .1 .1 .0 ∙ first .advance-expression .kept .1 .1 .0
+      third .advance-by-kind2 .kept .1 .0 ∙ second .rest2 .kept .1 .1 .1 .1 .0 ∙ first .advance-expression .kept .1 .0
 
   present-returns-2 : present-lts.Need-returns-2 (present-calls t) (present-at t) present.Post
   present-returns-2 c =
-      let third = c .before .before .before in
+      let third = c .before .before in
       let second = third .before .before .before .before in
-      let left = second .before .before in
-      let test = left .before in
-      let first = test .before .before .before in
+      let test = second .before .before in
+      let first = test .before .before .before .before in
       let start = first .before .before .before .before in
       λ p. present-advances-second p (start .args .fresh) (start .pre .1 .1)
-      (first .advance-expression .ensures) (sym (test .is-true .ensures) ∙ left .if1 .left)
-      (second .rest2 .ensures) (third .advance-by-kind2 .ensures) (c .under .ensures)
+      (first .advance-expression .ensures) (test .if1 .left) (second .rest2 .ensures) (third .advance-by-kind2 .ensures)
 
   reset-sub-below : reset-lts.Need-sub-below (reset-calls t) (reset-at t) reset.Post
   reset-sub-below c = opened (c .before .before .pre .1 .0 .place) .level-left
@@ -686,9 +648,6 @@ module _ (t : ℕ) where
       let w = reset-view (p .place) (start .pre .1 .1) in
       (omega (arith, start .pre .0, opened (p .place) .level-left), two-ready p w)
 
-  reset-is-true-requires : reset-lts.Need-is-true-requires (reset-calls t) (reset-at t) reset.Post
-  reset-is-true-requires c κs = search needs
-
   reset-advance-by-kind-requires : reset-lts.Need-advance-by-kind-requires (reset-calls t) (reset-at t) reset.Post
   reset-advance-by-kind-requires c κs =
       let first = c .before .before .before .before in
@@ -697,34 +656,29 @@ module _ (t : ℕ) where
       let w = reset-view (p .place) (start .pre .1 .1) in
       (omega (arith, start .pre .0, opened (p .place) .level-left), two-ready-2 p w (first .advance-expression .ensures))
 
-  reset-under-requires : reset-lts.Need-under-requires (reset-calls t) (reset-at t) reset.Post
-  reset-under-requires c κs = search needs
-
   reset-same-length : reset-lts.Need-same-length (reset-calls t) (reset-at t) reset.Post
   reset-same-length c =
-      let second = c .before .before .before in
+      let second = c .before .before in
       let first = second .before .before .before .before .before in
-      second .advance-by-kind .kept .1 .1 .0 ∙ first .advance-expression .kept .1 .1 .0
+      second .advance-by-kind .kept .1 .0 ∙ first .advance-expression .kept .1 .0
 
   reset-returns : reset-lts.Need-returns (reset-calls t) (reset-at t) reset.Post
   reset-returns c =
-      let second = c .before .before .before in
-      let test = second .before .before in
-      let first = test .before .before .before in
+      let second = c .before .before in
+      let first = second .before .before .before .before .before in
       let start = first .before .before .before .before in
-      λ p. reset-advances p (start .args .fresh) (start .pre .1 .1)
-      (first .advance-expression .ensures) (test .is-true .ensures) (second .advance-by-kind .ensures) (c .under .ensures)
+      λ p. reset-advances p (start .args .fresh) (start .pre .1 .1) (first .advance-expression .ensures) (second .advance-by-kind .ensures)
 
   expression-shared-slice-read-if1 : expression-lts.Need-shared-slice-read-if1 (expression-calls t) (expression-at t) expression.Post
   expression-shared-slice-read-if1 c = opened (c .before .before .before .pre .1 .place) .good .starts
 
-  expression-value-leaf-requires : expression-lts.Need-value-leaf-requires (expression-calls t) (expression-at t) expression.Post
-  expression-value-leaf-requires c κs = leaf-of (c .before .before .before .before .pre .1 .place) (c .if1 .taken)
+  expression-advance-leaf-requires : expression-lts.Need-advance-leaf-requires (expression-calls t) (expression-at t) expression.Post
+  expression-advance-leaf-requires c κs = leaf-of (c .before .before .before .before .pre .1 .place) (c .if1 .taken)
 
   expression-returns : expression-lts.Need-returns (expression-calls t) (expression-at t) expression.Post
   expression-returns c =
       let start = c .before .before .before .before .before in
-      λ p. leaf-advances p (start .args .fresh) (c .before .if1 .taken) (c .value-leaf .ensures)
+      λ p. leaf-advances p (start .args .fresh) (c .before .if1 .taken) (c .advance-leaf .ensures)
 
   expression-advance-by-kind-requires : expression-lts.Need-advance-by-kind-requires (expression-calls t) (expression-at t) expression.Post
   expression-advance-by-kind-requires c κs =
@@ -732,7 +686,7 @@ module _ (t : ℕ) where
       (omega (arith, start .pre .0), start .pre .1)
 
   expression-same-length : expression-lts.Need-same-length (expression-calls t) (expression-at t) expression.Post
-  expression-same-length c = c .before .before .advance-by-kind .kept .1 .1 .0
+  expression-same-length c = c .before .before .advance-by-kind .kept .1 .0
 
   expression-returns-2 : expression-lts.Need-returns-2 (expression-calls t) (expression-at t) expression.Post
   expression-returns-2 c = c .before .before .advance-by-kind .ensures
@@ -742,7 +696,7 @@ pub +advance-by-kind+advance-conditional+advance-expression+advance-fby+advance-
     close μ-by-kind μ-conditional μ-expression μ-fby μ-operation μ-pre μ-present μ-reset
     (λ t. by-kind-lts.spec (by-kind-calls t) (by-kind-at t) by-kind.Post
     (by-kind-shared-slice-read-match t) (by-kind-advance-conditional-requires t) (by-kind-advance-present-requires t)
-    (by-kind-advance-reset-requires t) (by-kind-value-leaf-requires t) (by-kind-advance-operation-requires t)
+    (by-kind-advance-reset-requires t) (by-kind-advance-leaf-requires t) (by-kind-advance-operation-requires t)
     (by-kind-advance-pre-requires t) (by-kind-advance-fby-requires t) (by-kind-same-length t) (by-kind-returns t)
     (by-kind-same-length-2 t) (by-kind-returns-2 t) (by-kind-same-length-3 t) (by-kind-returns-3 t) (by-kind-returns-4 t)
     (by-kind-same-length-4 t) (by-kind-returns-5 t) (by-kind-same-length-5 t) (by-kind-returns-6 t)
@@ -750,14 +704,14 @@ pub +advance-by-kind+advance-conditional+advance-expression+advance-fby+advance-
     (λ t. conditional-lts.spec (conditional-calls t) (conditional-at t) conditional.Post
     (conditional-sub-below t) (conditional-add-first t) (conditional-advance-expression-requires t)
     (conditional-advance-expression-requires-2 t) (conditional-advance-expression-requires-3 t)
-    (conditional-conditional-requires t) (conditional-same-length t) (conditional-returns t))
+    (conditional-choose-requires t) (conditional-same-length t) (conditional-returns t))
     (λ t. expression-lts.spec (expression-calls t) (expression-at t) expression.Post
-    (expression-shared-slice-read-if1 t) (expression-value-leaf-requires t) (expression-returns t)
+    (expression-shared-slice-read-if1 t) (expression-advance-leaf-requires t) (expression-returns t)
     (expression-advance-by-kind-requires t) (expression-same-length t) (expression-returns-2 t))
     (λ t. fby-lts.spec (fby-calls t) (fby-at t) fby.Post
-    (fby-sub-below t) (fby-add-first t) (fby-add-inner t) (fby-cell-at-requires t) (fby-started-requires t)
-    (fby-advance-expression-requires t) (fby-advance-expression-requires-2 t) (fby-datum-in-requires t)
-    (fby-put-cell-requires t) (fby-held-or-requires t) (fby-same-length t) (fby-returns t))
+    (fby-sub-below t) (fby-add-first t) (fby-add-inner t) (fby-is-seen-requires t) (fby-word-in-requires t)
+    (fby-advance-expression-requires t) (fby-advance-expression-requires-2 t) (fby-datum-of-requires t)
+    (fby-put-cell-requires t) (fby-choose-requires t) (fby-same-length t) (fby-returns t))
     (λ t. operation-lts.spec (operation-calls t) (operation-at t) operation.Post
     (operation-shared-slice-read-kind t) (operation-operation-type-requires t) (operation-sub-below t) (operation-add-first t)
     (operation-advance-expression-requires t) (operation-unary-requires t)
@@ -766,13 +720,13 @@ pub +advance-by-kind+advance-conditional+advance-expression+advance-fby+advance-
     (operation-returns-2 t))
     (λ t. pre-lts.spec (pre-calls t) (pre-at t) pre.Post
     (pre-sub-below t) (pre-add-first t) (pre-shared-slice-read-body t) (pre-body-requires t) (pre-add-first-2 t)
-    (pre-add-inner t) (pre-body-at-requires t) (pre-datum-of-requires t) (pre-cell-at-requires t) (pre-held-requires t)
-    (pre-advance-expression-requires t) (pre-datum-in-requires t) (pre-put-cell-requires t) (pre-same-length t) (pre-returns t))
+    (pre-add-inner t) (pre-pre-word-requires t) (pre-advance-expression-requires t) (pre-datum-of-requires t)
+    (pre-put-cell-requires t) (pre-same-length t) (pre-returns t))
     (λ t. present-lts.spec (present-calls t) (present-at t) present.Post
-    (present-sub-below t) (present-add-first t) (present-advance-expression-requires t) (present-is-true-requires t)
+    (present-sub-below t) (present-add-first t) (present-advance-expression-requires t)
     (present-advance-by-kind-requires t) (present-rest-requires t) (present-same-length t) (present-returns t)
-    (present-rest-requires-2 t) (present-advance-by-kind-requires-2 t) (present-under-requires t) (present-same-length-2 t)
+    (present-rest-requires-2 t) (present-advance-by-kind-requires-2 t) (present-same-length-2 t)
     (present-returns-2 t))
     (λ t. reset-lts.spec (reset-calls t) (reset-at t) reset.Post
-    (reset-sub-below t) (reset-add-first t) (reset-advance-expression-requires t) (reset-is-true-requires t)
-    (reset-advance-by-kind-requires t) (reset-under-requires t) (reset-same-length t) (reset-returns t))
+    (reset-sub-below t) (reset-add-first t) (reset-advance-expression-requires t)
+    (reset-advance-by-kind-requires t) (reset-same-length t) (reset-returns t))

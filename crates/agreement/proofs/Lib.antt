@@ -1,0 +1,2 @@
+-- What the proof of `both` uses.
+pub mod Agreeing

@@ -1,0 +1,109 @@
+-- How the map is drawn wire by wire: the wires passed are noted with their cells, and the expressions of those that are left read.
+use Prim.Native.Nat.{ℕ, _+_, _≤_, _<_}
+use mathlib.Core.Path.{_≡_, sym, ap, _∙_}
+use mathlib.Core.Logic.{_≢_}
+use mathlib.Core.Bool.{false, _||_}
+use mathlib.Core.List.{List, [], _∷_, _++_, append-assoc, append-nil}
+use native.Mathlib.Numerals.{add-one}
+use native.Mathlib.Omega.{arith}
+use lib.ListN.{length, getD, set, take, drop}
+use lib.Seq.{sets-eq, take-at, take-suc, take-all, getD-set-same, getD-set-other}
+use borrow.Author.Count.{below-more}
+use Rattle.wires.specs.Sets.{member}
+use Rattle.sheet.specs.Expressions.{Expression, constant, cellForms}
+use Rattle.sheet.specs.Lists.{among}
+use Rattle.sheet.specs.Reads.{wiresRead}
+use Rattle.sheet.specs.Readings.{erased, readEach, readExpression}
+use Rattle.sheet.specs.Sheets.{formsOf, before}
+use Rattle.sheet.specs.Laws.Readings.{not-good, run-extent}
+use Rattle.sheet.specs.declared.Datum.the-variants.{Boolean}
+use Rattle.sheet.specs.declared.Read.{Read}
+use Rattle.sheet.specs.declared.Refusal.{Refusal}
+use Rattle.sheet.specs.declared.Read.the-variants.{Refused, Got}
+use Rattle.sheet_own.specs.Own.{Joins}
+use Rattle.sheet_expressions.specs.Map.{WiresRead, StartsAt, Entered, HoldsJust, Checks, Mapped, Drawn}
+use Rattle.sheet_expressions.proofs.Noting.{entered-none, entered-append, pairs-length}
+use Rattle.sheet_expressions.proofs.Locating.{treeAt, Left, all-left, turn}
+
+-- what is joined to the empty set is held alone
+joined-alone : {none : ℕ} (ws : List ℕ) {bits : ℕ} → ((k : ℕ) → member none k ≡ false) → Joins none ws bits → HoldsJust bits ws
+joined-alone ws empty joins = record { same = λ k. joins .joined k ∙ ap (λ b. b || among k ws) (empty k) }
+
+pub forms-snoc : (es : List Expression) (e : Expression) → formsOf (es ++ (e ∷ [])) ≡ formsOf es ++ cellForms e
+unfolding formsOf
+forms-snoc [] e = append-nil (cellForms e)
+forms-snoc (a ∷ es) e = ap (λ fs. cellForms a ++ fs) (forms-snoc es e) ∙ sym (append-assoc (cellForms a) (formsOf es) (cellForms e))
+
+-- an entry that is set, and those that are not
+set-below : (P : ℕ → ℕ → Type 0) (l : List ℕ) (w x : ℕ) → w < length l → ((v : ℕ) → v < w → P v (getD l v 0)) → P w x
+    → (v : ℕ) → v < w + 1 → P v (getD (set l w x) v 0)
+set-below P l w x room below here v m =
+    below-more (λ v. P v (getD (set l w x) v 0)) w
+    (λ v k. let other : v ≢ w = λ e. omega arith in rw (getD-set-other l w v x 0 other) (below v k))
+    (rw (getD-set-same l w x 0 room) here) v (omega arith)
+
+module _ {s : List ℕ} {wires at : ℕ} (run : WiresRead s wires at) where
+  -- the wires below w are noted with their cells, and the others are left
+  pub record Drawing (w next count : ℕ) (places firsts reads before cells : List ℕ) : Type 0 where
+    pub left : Left run w next count
+    pub place : (v : ℕ) → v < w → StartsAt run v (getD places v 0) (getD firsts v 0)
+    pub read : (v : ℕ) → v < w → HoldsJust (getD reads v 0) (wiresRead (treeAt (run .trees) v))
+    pub noted : Entered s (formsOf (take w (run .trees))) 0 before cells
+
+  pub nothing-drawn : {places firsts reads cells : List ℕ} → Drawing 0 at 0 places firsts reads cells cells
+  unfolding formsOf
+  nothing-drawn =
+      record { left = all-left run; place = λ v l. absurd (omega arith); read = λ v l. absurd (omega arith); noted = entered-none }
+
+  -- one wire more
+  pub wire-drawn : {w next count n k none bits : ℕ} {answer : Read} {places firsts reads before cells after : List ℕ} → w < wires
+      → w < length places → w < length firsts → w < length reads
+      → Drawing w next count places firsts reads before cells → answer ≡ Got n k → ((j : ℕ) → member none j ≡ false)
+      → Checks s cellForms wiresRead (readExpression (run .inputs) (run .types) s 16 (getD (run .types) w 0) next count) count
+      answer cells after none bits
+      → Drawing (w + 1) n k (set places w next) (set firsts w count) (set reads w bits) before after
+  wire-drawn {w} {next} {count} {n} {k} {none} {bits} {answer} {places} {firsts} {reads} more inPlaces inFirsts inReads d e empty h =
+      let here = turn run (d .left) more in
+      let same = sym e ∙ h .answers ∙ ap erased (here .here .reads) in
+      let next-is : here .here .next ≡ n = cc in
+      let count-is : here .here .count ≡ k = cc in
+      let grown : w < length (run .trees) =
+      omega (arith, run .sized, run-extent (run .inputs) (run .types) s 16 (run .types) at 0 (run .reads) .sized) in
+      let more-forms : formsOf (take (w + 1) (run .trees)) ≡ formsOf (take w (run .trees)) ++ cellForms (treeAt (run .trees) w) =
+      rw (add-one, take-suc (run .trees) w (constant (Boolean false)) grown) (forms-snoc (take w (run .trees)) (treeAt (run .trees) w)) in
+      let first : count ≡ 0 + length (formsOf (take w (run .trees))) = omega (arith, d .left .counted) in
+      record {
+        left = rw (add-one, ← next-is, ← count-is) (here .behind);
+        place = λ v l. set-below (λ v x. StartsAt run v x (getD (set firsts w count) v 0)) places w next inPlaces
+            (λ v m. let other : v ≢ w = λ q. omega arith in rw (getD-set-other firsts w v count 0 other) (d .place v m))
+            (rw (getD-set-same firsts w count 0 inFirsts) (here .here)) v l;
+        read = set-below (λ v x. HoldsJust x (wiresRead (treeAt (run .trees) v))) reads w bits inReads (d .read)
+            (joined-alone (wiresRead (treeAt (run .trees) w)) empty
+            (h .reads (treeAt (run .trees) w) (here .here .next) (here .here .count) (here .here .reads)));
+        noted = rw more-forms
+            (entered-append (formsOf (take w (run .trees))) (cellForms (treeAt (run .trees) w)) first (d .noted)
+            (h .cells (treeAt (run .trees) w) (here .here .next) (here .here .count) (here .here .reads)));
+      }
+
+  -- all of them
+  pub all-drawn : {w next count : ℕ} {places firsts reads before cells : List ℕ} → wires ≤ w → 64 ≤ length before
+      → Drawing w next count places firsts reads before cells → Mapped run places firsts reads cells
+  all-drawn {w} {next} {count} {before = before} {cells = cells} over room d =
+      let extent = run-extent (run .inputs) (run .types) s 16 (run .types) at 0 (run .reads) in
+      let whole : take w (run .trees) ≡ run .trees = take-all w (run .trees) (omega (arith, run .sized, extent .sized)) in
+      let noted = rw whole at (d .noted) in
+      let few = extent .limited (omega arith) in
+      let sized : length (noted .entries) ≡ run .count = pairs-length (noted .noted) ∙ (omega (arith, extent .counted)) in
+      let kept : take (run .count) cells ≡ noted .entries =
+      rw (noted .placed, sets-eq (noted .entries) before 0 (omega arith))
+      (take-at (noted .entries) (drop (0 + length (noted .entries)) before) (run .count) sized) in
+      record {
+        sites = record { wire = λ v l. d .place v (omega arith); read = λ v l. d .read v (omega arith) };
+        cell = rw kept (noted .noted);
+      }
+
+-- nothing is said of wires that are refused
+pub run-refused : {inputs types s : List ℕ} {at place : ℕ} {why : Refusal} {places firsts reads cells : List ℕ}
+    → Refused why place ≡ erased (readEach (readExpression inputs types s 16) types at 0)
+    → Drawn inputs types s at places firsts reads cells
+run-refused e = record { maps = λ trees n k each. not-good (e ∙ ap erased each) }

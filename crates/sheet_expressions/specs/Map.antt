@@ -1,0 +1,137 @@
+-- The map of a sheet, which the check draws: where each wire's expression starts, the number of its first cell, and the set of the wires
+-- that it reads within the instant; and of each cell, where the expression that owns it stands, and its form. What the lists of a map
+-- hold beyond the wires and the cells, and after a refusal, is free: nobody reads it.
+use Prim.Native.Nat.{ℕ, _/_, _%_, _≤_, _<_}
+use mathlib.Core.Path.{_≡_, refl}
+use mathlib.Core.Bool.{false}
+use mathlib.Core.List.{List}
+use lib.ListN.{length, getD, take}
+use lib.Seq.{sets}
+use Rattle.wires.specs.Sets.{member}
+use Rattle.sheet.specs.Expressions.{Expression, CellForm, constant}
+use Rattle.sheet.specs.Kinds.{kindCount}
+use Rattle.sheet.specs.Lists.{among}
+use Rattle.sheet.specs.Reads.{wiresRead}
+use Rattle.sheet.specs.Readings.{Reading, got, erased, readEach, readExpression, bodyAt, Whole}
+use Rattle.sheet.specs.Sheets.{Sheet, formsOf, before}
+use Rattle.sheet.specs.Memory.{formByte, ownCell}
+use Rattle.sheet.specs.Typing.{Pairwise}
+use Rattle.sheet.specs.Laws.Headers.{SheetRead}
+use Rattle.sheet_names.specs.Naming.{Naming}
+use Rattle.sheet_own.specs.Own.{Joins}
+use Rattle.sheet.specs.declared.Datum.the-variants.{Boolean}
+use Rattle.sheet.specs.declared.Read.{Read}
+use Rattle.sheet.specs.declared.Read.the-variants.{Refused, Got}
+
+-- the expressions of so many wires, from `at` on, read as the sheet's do
+pub record WiresRead (s : List ℕ) (wires at : ℕ) : Type 0 where
+  pub inputs : List ℕ
+  pub types : List ℕ
+  pub trees : List Expression
+  pub next : ℕ
+  pub count : ℕ
+  pub sized : length types ≡ wires
+  pub reads : readEach (readExpression inputs types s 16) types at 0 ≡ got trees next count
+
+-- wire w's expression reads at the place, and behind as many cells as the wires before it own
+pub record StartsAt {s : List ℕ} {wires at : ℕ} (run : WiresRead s wires at) (w place cell : ℕ) : Type 0 where
+  pub next : ℕ
+  pub count : ℕ
+  pub reads : readExpression (run .inputs) (run .types) s 16 (getD (run .types) w 0) place cell
+      ≡ got (getD (run .trees) w (constant (Boolean false))) next count
+  pub first : cell ≡ length (formsOf (take w (run .trees)))
+
+-- the entry of a cell: four times the place of its owner's kind byte, and its form
+abbrev pub ownerIn : ℕ → ℕ
+ownerIn entry = entry / 4
+
+abbrev pub formIn : ℕ → ℕ
+formIn entry = entry % 4
+
+-- the entry leads to the owner of a cell of the form
+pub record CellNoted (s : List ℕ) (of : CellForm) (entry : ℕ) : Type 0 where
+  pub owner : Whole s (ownerIn entry)
+  pub starts : ownCell (getD s (ownerIn entry) 0) (bodyAt s (ownerIn entry)) ≡ of .start
+  pub form : formIn entry ≡ formByte of
+
+-- the cells of these forms were noted from number c on, and nothing else was changed
+pub record Entered (s : List ℕ) (forms : List CellForm) (c : ℕ) (before after : List ℕ) : Type 0 where
+  pub entries : List ℕ
+  pub noted : Pairwise (CellNoted s) forms entries
+  pub placed : after ≡ sets before c entries
+
+-- the set with these bits holds just the wires of the list
+pub record HoldsJust (bits : ℕ) (ws : List ℕ) : Type 0 where
+  pub same : (w : ℕ) → member bits w ≡ among w ws
+
+-- the answer is that of a reading; and where it got something, its cells were noted behind c others, and what it reads within the
+-- instant was joined to a set
+pub record Checks {A : Type 0} (s : List ℕ) (formsOf : A → List CellForm) (readsOf : A → List ℕ) (reading : Reading A)
+    (c : ℕ) (answer : Read) (before after : List ℕ) (bits joint : ℕ) : Type 0 where
+  pub answers : answer ≡ erased reading
+  pub cells : (a : A) (n k : ℕ) → reading ≡ got a n k → Entered s (formsOf a) c before after
+  pub reads : (a : A) (n k : ℕ) → reading ≡ got a n k → Joins bits (readsOf a) joint
+
+-- an expression with operands stands at the place, at a level that is left
+pub record NodeAt (s : List ℕ) (level t at c : ℕ) : Type 0 where
+  pub byte : at < length s
+  pub kind : getD s at 0 < kindCount
+  pub operands : 4 ≤ getD s at 0
+  pub levels : 1 ≤ level
+  pub asked : t < 2
+  pub room : c ≤ 64
+  pub few : length s ≤ 4096
+
+-- eight numbers that the names of a sheet's leaves are looked up in, where its wires have these types
+pub record WiresLookup (types names : List ℕ) : Type 0 where
+  pub inputs : List ℕ
+  pub naming : Naming inputs types names
+
+-- what holds of a map: each wire starts where it says and reads what it says
+pub record Sited {s : List ℕ} {wires at : ℕ} (run : WiresRead s wires at) (places firsts reads : List ℕ) : Type 0 where
+  pub wire : (w : ℕ) → w < wires → StartsAt run w (getD places w 0) (getD firsts w 0)
+  pub read : (w : ℕ) → w < wires → HoldsJust (getD reads w 0) (wiresRead (getD (run .trees) w (constant (Boolean false))))
+
+-- and each cell was noted
+pub record Mapped {s : List ℕ} {wires at : ℕ} (run : WiresRead s wires at) (places firsts reads cells : List ℕ) : Type 0 where
+  pub sites : Sited run places firsts reads
+  pub cell : Pairwise (CellNoted s) (formsOf (run .trees)) (take (run .count) cells)
+
+-- the expressions of wires of these types, as they read from `at` on
+abbrev pub runOf : (inputs types s : List ℕ) (at : ℕ) (trees : List Expression) (n k : ℕ)
+    → readEach (readExpression inputs types s 16) types at 0 ≡ got trees n k → WiresRead s (length types) at
+runOf inputs types s at trees n k each =
+    record { inputs = inputs; types = types; trees = trees; next = n; count = k; sized = refl; reads = each }
+
+-- where the expressions of the wires from `at` on read, the map is theirs
+pub record Drawn (inputs types s : List ℕ) (at : ℕ) (places firsts reads cells : List ℕ) : Type 0 where
+  pub maps : (trees : List Expression) (n k : ℕ) (each : readEach (readExpression inputs types s 16) types at 0 ≡ got trees n k)
+      → Mapped (runOf inputs types s at trees n k each) places firsts reads cells
+
+-- the answer is that of the expressions of the wires from `at` on, and the map is theirs
+pub record WiresChecked (inputs types s : List ℕ) (at : ℕ) (answer : Read) (places firsts reads cells : List ℕ) : Type 0 where
+  pub answers : answer ≡ erased (readEach (readExpression inputs types s 16) types at 0)
+  pub drawn : Drawn inputs types s at places firsts reads cells
+
+-- the expressions of a sheet that reads
+abbrev pub wiresOf : {s : List ℕ} {sheet : Sheet} {n k : ℕ} (v : SheetRead s sheet n k)
+    → WiresRead s (length (before s (v .wiresEnd) (v .wireCount))) (v .outputsEnd)
+wiresOf {s} {n = n} {k = k} v =
+    runOf (before s (v .inputsEnd) (v .inputCount)) (before s (v .wiresEnd) (v .wireCount)) s (v .outputsEnd) (v .expressions) n k (v .each)
+
+-- what holds where something was read
+abbrev pub whereGot : Read → (ℕ → ℕ → Type 0) → Type 0
+whereGot (Refused why place) P = Unit {0}
+whereGot (Got n k) P = P n k
+
+-- at most 64 type bytes
+pub record TypeBytes (types : List ℕ) : Type 0 where
+  pub few : length types ≤ 64
+  pub each : (i : ℕ) → getD types i 0 < 2
+
+-- lists with room for 64 wires and 64 cells
+pub record Tables (places firsts reads cells : List ℕ) : Type 0 where
+  pub forPlaces : 64 ≤ length places
+  pub forFirsts : 64 ≤ length firsts
+  pub forReads : 64 ≤ length reads
+  pub forCells : 64 ≤ length cells

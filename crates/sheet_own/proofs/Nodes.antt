@@ -1,0 +1,171 @@
+-- The rows of the table that leaves, expressions with operands and owners of cells have, and what their own bytes show.
+use Prim.Native.Nat.{ℕ, _+_, _≤_, _<_}
+use mathlib.Core.Path.{_≡_, refl, sym, _∙_}
+use mathlib.Core.Bool.{Bool, true, false, cond}
+use mathlib.Core.List.{List, [], _∷_}
+use native.Mathlib.Omega.{arith}
+use lib.Dec.{eqb, leb, ltb}
+use lib.ListN.{length, getD}
+use borrow.Author.Tests.{le-ltb, lt-ltb, lt-leb, le-leb, leb-false, eqb-true, eq-eqb, ne-eqb}
+use Rattle.sheet.specs.Kinds.{kindCount, bodyOf, cellsOf, ownTypeOf, typed, limitOf, foundOf}
+use Rattle.sheet.specs.Reads.{wiresNamed}
+use Rattle.sheet.specs.Readings.{namedAt, bodyAt, namesOf, bodyFrom}
+use Rattle.sheet.specs.Laws.Readings.{not-good, kinds-between, _▸_, end}
+use Rattle.sheet.specs.declared.Refusal.{Refusal}
+use Rattle.sheet.specs.declared.Read.{Read}
+use Rattle.sheet.specs.declared.Read.the-variants.{Refused, Got}
+use Rattle.sheet.specs.declared.Refusal.the-variants.{Cut, Body, TypeAsked, CellLimit}
+use Rattle.sheet_names.specs.Naming.{limitIn, typeIn, Naming}
+use Rattle.sheet_own.specs.Own.{Joins, LeafChecks, thenType}
+
+-- a leaf owns no cell
+pub leaf-cells : (k : ℕ) → k < 4 → cellsOf k ≡ 0
+leaf-cells k l = kinds-between (λ k. cellsOf k ≡ 0) {low = 0} (refl ▸ refl ▸ refl ▸ refl ▸ end) k (omega arith) l
+
+-- an expression with operands names nothing: it has the type of the table, and a body of one byte stays below the two Booleans
+pub node-type : (inputs wires : List ℕ) (t n k : ℕ) → 4 ≤ k → k < kindCount → foundOf inputs wires t k n ≡ typed t (ownTypeOf k)
+node-type inputs wires t n = kinds-between (λ k. foundOf inputs wires t k n ≡ typed t (ownTypeOf k))
+    (refl ▸ refl ▸ refl ▸ refl ▸ refl ▸ refl ▸ refl ▸ refl ▸ refl ▸ refl ▸ refl ▸ refl ▸ refl ▸ refl ▸ end)
+
+node-limit : (inputs wires : List ℕ) (k : ℕ) → 4 ≤ k → k < kindCount → limitOf inputs wires k ≡ 2
+node-limit inputs wires = kinds-between (λ k. limitOf inputs wires k ≡ 2)
+    (refl ▸ refl ▸ refl ▸ refl ▸ refl ▸ refl ▸ refl ▸ refl ▸ refl ▸ refl ▸ refl ▸ refl ▸ refl ▸ refl ▸ end)
+
+plain-body : (k : ℕ) → 4 ≤ k → k < 15 → bodyOf k ≡ 0
+plain-body = kinds-between (λ k. bodyOf k ≡ 0)
+    (refl ▸ refl ▸ refl ▸ refl ▸ refl ▸ refl ▸ refl ▸ refl ▸ refl ▸ refl ▸ refl ▸ end)
+
+pub plain-cells : (k : ℕ) → 4 ≤ k → k < 15 → cellsOf k ≡ 0
+plain-cells = kinds-between (λ k. cellsOf k ≡ 0)
+    (refl ▸ refl ▸ refl ▸ refl ▸ refl ▸ refl ▸ refl ▸ refl ▸ refl ▸ refl ▸ refl ▸ end)
+
+pub owner-cells : (k : ℕ) → 15 ≤ k → k < kindCount → cellsOf k ≡ 1
+owner-cells = kinds-between (λ k. cellsOf k ≡ 1) (refl ▸ refl ▸ refl ▸ end)
+
+-- 7 and 9 of an expression with operands
+names-node : (inputs wires s : List ℕ) (t at n k : ℕ) → 4 ≤ getD s at 0 → getD s at 0 < kindCount → namedAt s at < 2
+    → namesOf inputs wires s t at n k ≡ thenType (getD s at 0) t at (Got n k)
+unfolding namesOf
+names-node inputs wires s t at n k node kind fine =
+    rw (
+      node-limit inputs wires (getD s at 0) node kind,
+      lt-leb 2 (namedAt s at) fine,
+      node-type inputs wires t (namedAt s at) (getD s at 0) node kind,
+    )
+
+-- the own bytes of one that owns no cell: nothing but 9 is left
+pub plain-own : (inputs wires s : List ℕ) (t at c : ℕ) → at < length s → 4 ≤ getD s at 0 → getD s at 0 < 15 → c ≤ 64
+    → bodyFrom inputs wires s t at c ≡ thenType (getD s at 0) t at (Got (at + 1) c)
+unfolding bodyFrom
+plain-own inputs wires s t at c byte node plain room =
+    let kind = getD s at 0 in
+    let cells = plain-cells kind node plain in
+    let body = plain-body kind node plain in
+    let count : c + 0 ≡ c = omega arith in
+    let past : at + 1 + 0 ≡ at + 1 = omega arith in
+    let fine : namedAt s at < 2 = rw body (omega arith) in
+    rw (cells, body, count, past, le-ltb 64 c room, le-ltb (length s) (at + 1) (omega arith))
+    (names-node inputs wires s t at (at + 1) c node (omega arith) fine)
+
+-- the own bytes of an owner, test by test
+module _ (inputs wires s : List ℕ) (t at c : ℕ) (byte : at < length s) (owner : 15 ≤ getD s at 0) (known : getD s at 0 < kindCount) where
+  abbrev kind : ℕ
+  kind = getD s at 0
+
+  one : cellsOf kind ≡ 1
+  one = owner-cells kind owner known
+
+  pub owner-full : 64 ≤ c → Refused CellLimit at ≡ bodyFrom inputs wires s t at c
+  unfolding bodyFrom
+  owner-full full = rw (one, lt-ltb 64 (c + 1) (omega arith))
+
+  pub owner-cut : c < 64 → length s ≤ at + bodyOf kind → Refused Cut (length s) ≡ bodyFrom inputs wires s t at c
+  unfolding bodyFrom
+  owner-cut room cut = rw (one, le-ltb 64 (c + 1) (omega arith), lt-ltb (length s) (at + 1 + bodyOf kind) (omega arith))
+
+  rest : c < 64 → at + bodyOf kind < length s
+      → bodyFrom inputs wires s t at c ≡ namesOf inputs wires s t at (at + 1 + bodyOf kind) (c + 1)
+  unfolding bodyFrom
+  rest room whole = rw (one, le-ltb 64 (c + 1) (omega arith), le-ltb (length s) (at + 1 + bodyOf kind) (omega arith))
+
+  pub owner-wrong : c < 64 → at + bodyOf kind < length s → 1 < namedAt s at → Refused Body at ≡ bodyFrom inputs wires s t at c
+  unfolding namesOf
+  owner-wrong room whole wrong =
+      rw (rest room whole, node-limit inputs wires kind (omega arith) known, le-leb 2 (namedAt s at) wrong)
+
+  pub owner-good : c < 64 → at + bodyOf kind < length s → namedAt s at < 2
+      → thenType kind t at (Got (at + 1 + bodyOf kind) (c + 1)) ≡ bodyFrom inputs wires s t at c
+  owner-good room whole fine =
+      rw (rest room whole) (sym (names-node inputs wires s t at (at + 1 + bodyOf kind) (c + 1) (omega arith) known fine))
+
+-- the own bytes of a leaf, test by test
+module _ (inputs wires names s : List ℕ) (t at c : ℕ) (naming : Naming inputs wires names) (byte : at < length s) (leaf : getD s at 0 < 4)
+    (asked : t < 2) (room : c ≤ 64) (small : getD s (at + 1) 0 < 256) where
+  abbrev leaf-kind : ℕ
+  leaf-kind = getD s at 0
+
+  leaf-body : bodyFrom inputs wires s t at c ≡ cond (ltb (length s) (at + 1 + bodyOf leaf-kind)) (Refused Cut (length s))
+      (namesOf inputs wires s t at (at + 1 + bodyOf leaf-kind) c)
+  unfolding bodyFrom
+  leaf-body = let count : c + 0 ≡ c = omega arith in rw (leaf-cells leaf-kind leaf, count, le-ltb 64 c room)
+
+  pub leaf-cut : length s ≤ at + bodyOf leaf-kind → Refused Cut (length s) ≡ bodyFrom inputs wires s t at c
+  leaf-cut cut = rw (leaf-body, lt-ltb (length s) (at + 1 + bodyOf leaf-kind) (omega arith))
+
+  leaf-names : at + bodyOf leaf-kind < length s
+      → bodyFrom inputs wires s t at c ≡ namesOf inputs wires s t at (at + 1 + bodyOf leaf-kind) c
+  leaf-names whole = rw (leaf-body, le-ltb (length s) (at + 1 + bodyOf leaf-kind) (omega arith))
+
+  pub leaf-wrong : at + bodyOf leaf-kind < length s → limitIn names leaf-kind ≤ getD s (at + 1) 0
+      → Refused Body at ≡ bodyFrom inputs wires s t at c
+  unfolding namesOf
+  leaf-wrong whole wrong =
+      rw (
+        leaf-names whole,
+        ← (naming .limits leaf-kind (getD s (at + 1) 0) leaf small),
+        le-leb (limitIn names leaf-kind) (getD s (at + 1) 0) wrong,
+      )
+
+  -- where the limit is not reached
+  module _ (whole : at + bodyOf leaf-kind < length s) (below : getD s (at + 1) 0 < limitIn names leaf-kind) where
+    limited : leb (limitOf inputs wires leaf-kind) (namedAt s at) ≡ false
+    limited = sym (naming .limits leaf-kind (getD s (at + 1) 0) leaf small) ∙ lt-leb (limitIn names leaf-kind) (getD s (at + 1) 0) below
+
+    typed-as : eqb (typeIn names leaf-kind (getD s (at + 1) 0)) t ≡ eqb (foundOf inputs wires t leaf-kind (namedAt s at)) t
+    typed-as =
+        naming .types leaf-kind (getD s (at + 1) 0) t leaf small (leb-false (limitOf inputs wires leaf-kind) (namedAt s at) limited) asked
+
+    pub leaf-other : (typeIn names leaf-kind (getD s (at + 1) 0) ≡ t → ⊥) → Refused TypeAsked at ≡ bodyFrom inputs wires s t at c
+    unfolding namesOf
+    leaf-other other =
+        rw (leaf-names whole, limited, ← typed-as, ne-eqb (typeIn names leaf-kind (getD s (at + 1) 0)) t other)
+
+    pub leaf-good : typeIn names leaf-kind (getD s (at + 1) 0) ≡ t → Got (at + 1 + bodyOf leaf-kind) c ≡ bodyFrom inputs wires s t at c
+    unfolding namesOf
+    leaf-good same =
+        rw (leaf-names whole, limited, ← typed-as, eq-eqb (typeIn names leaf-kind (getD s (at + 1) 0)) t same)
+
+    -- a wire that is named is one of at most 64
+    pub wire-below : leaf-kind ≡ 2 → getD s (at + 1) 0 < 64
+    wire-below e =
+        let below : getD s (at + 1) 0 < length wires = rw e at (leb-false (limitOf inputs wires leaf-kind) (namedAt s at) limited) in
+        omega (arith, naming .few)
+
+-- the byte behind kind 2 is its body
+pub joins-named : (s : List ℕ) (at : ℕ) {bits joint : ℕ} → Joins bits (wiresNamed (getD s at 0) (getD s (at + 1) 0)) joint
+    → Joins bits (wiresNamed (getD s at 0) (bodyAt s at)) joint
+joins-named s at {bits} {joint} h = go (eqb (getD s at 0) 2) refl h
+  where
+    go : (b : Bool) → eqb (getD s at 0) 2 ≡ b → Joins bits (cond b (getD s (at + 1) 0 ∷ []) []) joint
+        → Joins bits (cond b (bodyAt s at ∷ []) []) joint
+    go true e h = rw (eqb-true (getD s at 0) 2 e) h
+    go false e h = h
+
+-- a leaf has a byte of body at least
+pub leaf-long : (k : ℕ) → k < 4 → 1 ≤ bodyOf k
+leaf-long k l = kinds-between (λ k. 1 ≤ bodyOf k) {low = 0} (omega arith ▸ omega arith ▸ omega arith ▸ omega arith ▸ end) k (omega arith) l
+
+-- nothing is read by a leaf that is refused
+pub leaf-refused : {inputs wires s : List ℕ} {t at c bits joint place : ℕ} {why : Refusal} {answer : Read}
+    → Refused why place ≡ bodyFrom inputs wires s t at c → answer ≡ Refused why place → LeafChecks inputs wires s t at c answer bits joint
+leaf-refused e a = record { answers = a ∙ e; reads = λ n k q. not-good (sym a ∙ q) }

@@ -13,7 +13,7 @@ pub record PassesOver (known : Bool) (reads news : ℕ) (passed : Bool) : Type 0
   pub whereApart : Apart reads news → passed ≡ true
   pub only : passed ≡ true → known ≡ false → Apart reads news
 
--- the set holds, of the first n wires, just those that are passed over
+-- the set holds, of the first n wires, just those that are passed over; what it holds beyond them is free: no round goes there
 pub record NotDue (reads : List ℕ) (known news n bits : ℕ) : Type 0 where
   pub each : (w : ℕ) → w < n → PassesOver (member known w) (getD reads w 0) news (member bits w)
 

@@ -16,9 +16,10 @@ use Rattle.kernel.specs.Operations.{unaryOf, binaryOf}
 use Rattle.kernel.specs.declared.Value.{Value}
 use Rattle.kernel.specs.declared.Value.the-variants.{Unknown}
 use Rattle.operations.specs.Words.{unaryWord, binaryWord}
-use Rattle.expression.specs.declared.Valued.{Valued}
-use Rattle.expression.specs.Places.{Placement, isSeen, preWord, wholeValue, Gives, Yields, unknown, known}
-use Rattle.expression.specs.Leaves.{knownBy, leafValued}
+use Rattle.leaves.specs.declared.Valued.{Valued}
+use Rattle.leaves.specs.Words.{isSeen, preWord}
+use Rattle.expression.specs.Places.{Placement, wholeValue, Gives, Yields, unknown, known}
+use Rattle.leaves.specs.Leaves.{knownBy, leafValued}
 use Rattle.expression.proofs.Views.{placed, readable, own-types}
 use Rattle.expression.proofs.Views.{unary-view, binary-view, conditional-view, present-view, reset-view, fby-view, pre-view}
 use Rattle.expression.proofs.Values.{as-known, as-unknown, Answers, Walked, by-value, by-walk, value-behind, walk-behind}

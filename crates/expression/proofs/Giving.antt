@@ -22,8 +22,9 @@ use Rattle.kernel.specs.Instant.{value, cellAt, heldOr}
 use Rattle.kernel.specs.Laws.Typing.{unary-type, binary-type}
 use Rattle.kernel.specs.declared.Value.the-variants.{Unknown, Known}
 use Rattle.operations.specs.Words.{unaryWord, binaryWord}
-use Rattle.expression.specs.Places.{Placement, valueOfWord, isSeen, preWord, wholeValue, Gives}
-use Rattle.expression.specs.Leaves.{knownBy, leafWord}
+use Rattle.leaves.specs.Words.{isSeen, preWord}
+use Rattle.expression.specs.Places.{Placement, valueOfWord, wholeValue, Gives}
+use Rattle.leaves.specs.Leaves.{knownBy, leafWord}
 use Rattle.expression.proofs.Rows.{unary-typed, unary-operand, binary-typed, binary-operands}
 use Rattle.expression.proofs.Views.{opened, placed, Alone, own-cell, unary-types, binary-types}
 use Rattle.expression.proofs.Views.{unary-view, binary-view, conditional-view, present-view, reset-view, fby-view, pre-view}

@@ -1,6 +1,5 @@
 -- What the proofs of several functions use.
 pub mod Rows
-pub mod Leaves
 pub mod Views
 pub mod Values
 pub mod Giving

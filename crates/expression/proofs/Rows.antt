@@ -120,19 +120,3 @@ pub two-types : (xs ts : List ℕ) → take 2 xs ≡ ts → length ts ≡ 2 → 
 two-types [] ts e n = absurd (omega (arith, ap length e))
 two-types (x ∷ []) ts e n = absurd (omega (arith, ap length e))
 two-types (x ∷ y ∷ xs) ts e n = sym e
-
--- the body of a leaf: one byte, but of a number's constant four
-abbrev LeafBody : ℕ → Type 0
-LeafBody k = (1 ≤ bodyOf k) × ((k ≡ 1 → ⊥) → 1 ≡ bodyOf k)
-
-leaf-row : (k : ℕ) → k < 4 → LeafBody k
-leaf-row k below = kinds-between LeafBody {low = 0} (one ▸ (omega arith, λ n. absurd (n refl)) ▸ one ▸ one ▸ end) k (omega arith) (omega arith)
-  where
-    one : {n : ℕ} → (1 ≤ 1) × ((n ≡ 1 → ⊥) → _≡_ {A = ℕ} 1 1)
-    one = (omega arith, λ n. refl)
-
-pub leaf-sized : (k : ℕ) → k < 4 → 1 ≤ bodyOf k
-leaf-sized k below = leaf-row k below .0
-
-pub leaf-body : (k : ℕ) → k < 4 → (k ≡ 1 → ⊥) → 1 ≡ bodyOf k
-leaf-body k below = leaf-row k below .1

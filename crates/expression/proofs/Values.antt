@@ -15,7 +15,7 @@ use Rattle.kernel.specs.Operations.{unaryValue, binaryValue}
 use Rattle.kernel.specs.Instant.{value, cellAt, chosen, knownOr}
 use Rattle.kernel.specs.declared.Value.{Value}
 use Rattle.kernel.specs.declared.Value.the-variants.{Unknown, Known}
-use Rattle.expression.specs.declared.Valued.{Valued}
+use Rattle.leaves.specs.declared.Valued.{Valued}
 use Rattle.expression.specs.Places.{Placement, valueOfWord, wholeValue, Gives, Yields, unknown, known, YieldsAt}
 use Rattle.expression.proofs.Views.{Operand, placed, readable, operand-counted, Alone, One, Two, Three}
 

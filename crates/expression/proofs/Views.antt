@@ -24,7 +24,7 @@ use Rattle.sheet.specs.declared.Cell.{Cell}
 use Rattle.kernel.specs.Instant.{cellAt}
 use Rattle.kernel.specs.Operations.{unaryOf, binaryOf}
 use Rattle.expression.proofs.Rows.{unary-row, binary-row, pre-row, constant-row, cell-row, no-type, one-type, two-types}
-use Rattle.expression.specs.Leaves.{Leaf}
+use Rattle.leaves.specs.Leaves.{Leaf}
 use Rattle.expression.specs.Places.{CellStands, CellsStand, none, more, Placement}
 
 -- the cells of two runs of forms stand one run behind the other

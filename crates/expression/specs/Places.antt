@@ -2,38 +2,26 @@
 -- answer of it.
 use Prim.Native.Nat.{ℕ, suc, _+_, _*_, _≤_, _<_}
 use mathlib.Core.Path.{_≡_}
-use mathlib.Core.Bool.{Bool, true, false, not, cond}
+use mathlib.Core.Bool.{Bool, true, false}
 use mathlib.Core.List.{List, [], _∷_}
-use lib.Dec.{eqb}
 use lib.ListN.{length, getD, take, drop}
 use Rattle.wires.specs.Sets.{member}
 use Rattle.sheet.specs.Data.{ValueType, typeOfByte, datumOf}
 use Rattle.sheet.specs.Expressions.{Expression, CellForm, cellForms}
-use Rattle.sheet.specs.Readings.{got, readExpression, bodyAt}
-use Rattle.sheet.specs.Memory.{cellBytes, markAt, cellWordAt, readCell, memoryBytes}
-use Rattle.sheet.specs.Rows.{entryAt}
+use Rattle.sheet.specs.Readings.{got, readExpression}
+use Rattle.sheet.specs.Memory.{cellBytes, readCell, memoryBytes}
 use Rattle.sheet.specs.declared.Cell.{Cell}
 use Rattle.kernel.specs.Order.{valueAt}
 use Rattle.kernel.specs.Instant.{Environment, inputAt, cellAt, value, stored}
 use Rattle.kernel.specs.declared.Value.{Value}
 use Rattle.kernel.specs.declared.Value.the-variants.{Unknown, Known}
-use Rattle.expression.specs.declared.Valued.{Valued}
+use Rattle.leaves.specs.Words.{firstInput}
+use Rattle.leaves.specs.declared.Valued.{Valued}
 
 -- the value of a wire, from whether it is in the set of known wires and its word
 abbrev pub valueOfWord : Bool → ValueType → ℕ → Value
 valueOfWord false t word = Unknown
 valueOfWord true t word = Known (datumOf t word)
-
--- the words of an instant: those of the wires, by their numbers, and from here on those of the inputs
-abbrev pub firstInput : ℕ
-firstInput = 64
-
-abbrev pub inputWords : List ℕ → List ℕ
-inputWords words = drop firstInput words
-
--- each entry of an input row is among them
-unfoldable pub InputsPut : (input words : List ℕ) → Type 0
-InputsPut input words = (i : ℕ) → 4 * i + 4 ≤ length input → getD words (firstInput + i) 0 ≡ entryAt input i
 
 -- a set of known wires and the words stand for an environment's inputs and wires; types are type bytes
 pub record Stands (inputs wires words : List ℕ) (bits : ℕ) (now : Environment) : Type 0 where
@@ -71,14 +59,6 @@ pub record Placement (sheet memory words : List ℕ) (bits level asked at cell :
 -- whatever type is asked of it
 abbrev pub Placed : (sheet memory words : List ℕ) (bits level at cell : ℕ) → Type 0
 Placed sheet memory words bits level at cell = (asked : ℕ) × Placement sheet memory words bits level asked at cell
-
--- the place sees its cell as started: the cell is so, and the place is not fresh
-abbrev pub isSeen : Bool → List ℕ → ℕ → Bool
-isSeen fresh memory k = cond fresh false (not (eqb (markAt memory k) 0))
-
--- the word that a pre yields: that of its cell where it sees it started, and else that of its constant
-abbrev pub preWord : (sheet memory : List ℕ) (at cell : ℕ) → Bool → ℕ
-preWord sheet memory at cell fresh = cond (isSeen fresh memory cell) (cellWordAt memory cell) (bodyAt sheet at)
 
 module _ {sheet memory words : List ℕ} {bits level asked at cell : ℕ} (p : Placement sheet memory words bits level asked at cell)
     (fresh : Bool) where

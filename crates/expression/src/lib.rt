@@ -1,24 +1,14 @@
 // The value of an expression over the bytes of a sheet.
-// Rests on `sheet` for the format, on `kernel` for values and on `wires` for the set of known wires.
-pub mod cells;
-pub mod inputs;
-pub mod leaf;
+// Rests on `leaves` for what has no operands, on `kernel` for values and on `data` for what a word stands for.
 pub mod value;
 
 use kernel::Value;
+use sheet::data;
 use wires::Wires;
 ghost use mathlib.Core.Path.{_≡_};
 ghost use mathlib.Core.Bool.{false};
-ghost use Rattle.expression.specs.Places.{Placement, wholeValue};
-
-// What is handed back of an expression: whether its value is known, and then its word, the place past it and the number of the
-// first cell past its own. The two numbers stand apart, as neighbours would be read as one behind two stores, and wait for both.
-pub struct Valued {
-    pub next: usize,
-    pub word: u32,
-    pub cell: usize,
-    pub known: bool,
-}
+ghost use Rattle.sheet.specs.Data.{typeOfByte};
+ghost use Rattle.expression.specs.Places.{Placement, valueOfWord, wholeValue};
 
 // The value of a wire, whose expression stands at `at`, has the type byte `asked` and as its first cell the one with number `cell`.
 pub fn value_of_wire(
@@ -35,5 +25,16 @@ pub fn value_of_wire(
         → r ≡ wholeValue p false) ⌝ }
 {
     let v = value::value_expression(sheet, &memory, known, words, 16, at, cell, false);
-    leaf::value_of_word(v.known, asked, v.word)
+    value_of_word(v.known, asked, v.word)
+}
+
+// A value of the type, from whether it is known and its word.
+fn value_of_word(known: bool, asked: u8, word: u32) -> Value
+    ensures { λ r. ⌜ r ≡ valueOfWord known (typeOfByte asked) word ⌝ }
+{
+    if known {
+        Value::Known(data::datum_of(asked, word))
+    } else {
+        Value::Unknown
+    }
 }

@@ -1,11 +1,11 @@
 // The value of an expression over the sheet's bytes, a memory, the wires known so far and the words of wires and inputs. The memory
 // stands behind one more reference, so that a call hands on its address and copies no slice. An operand that is unknown ends it:
 // what it would hand back besides is not asked for.
-// Rests on `operations` for what a kind does with its operands, on `leaf` and `cells`, on `sheet` for the table of kinds, and on
-// `sheet_walk` for the walk past an operand.
-use crate::Valued;
-use crate::cells;
-use crate::leaf;
+// Rests on `operations` for what a kind does with its operands, on `leaf` and `cells` of `leaves`, on `sheet` for the table of kinds,
+// and on `sheet_walk` for the walk past an operand.
+use leaves::Valued;
+use leaves::cells;
+use leaves::leaf;
 use sheet::kinds;
 use sheet::memory;
 use sheet_walk::skip;

@@ -33,7 +33,7 @@ use Rattle.kernel.specs.declared.InRounds.the-variants.{Refused as RefusedInRou
 use Rattle.kernel.specs.declared.Scheduled.the-variants.{Refused as RefusedScheduled, Accepted as AcceptedScheduled}
 use Rattle.schedule.specs.Orders.{orderedAnswer}
 use Rattle.schedule.specs.declared.Ordered.the-variants.{Refused as RefusedOrder, Passed as PassedOrder}
-use Rattle.expression.specs.Places.{inputWords}
+use Rattle.leaves.specs.Words.{inputWords}
 use Rattle.rounds.specs.Running.{Held, unheld, held, Holds}
 use Rattle.rounds.specs.Outputs.{Below, wordsOf, output-words}
 use Rattle.rounds.proofs.Rounding.{out-unknown}

@@ -10,7 +10,7 @@ use Rattle.sheet_expressions.specs.Map.{HoldsJust}
 use Rattle.kernel.specs.Instants.{wireCount, readsAt}
 use Rattle.kernel.specs.Calls.{Given, givenOf}
 use Rattle.kernel.specs.Laws.Given.{given-by}
-use Rattle.expression.specs.Places.{inputWords, InputsPut}
+use Rattle.leaves.specs.Words.{inputWords, InputsPut}
 use Rattle.rounds.specs.Running.{Running, RunningReads}
 use Rattle.rounds.specs.Outputs.{Below}
 use Rattle.rounds.specs.Laws.Running.{input-length, parts}

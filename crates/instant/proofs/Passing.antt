@@ -22,7 +22,8 @@ use Rattle.kernel.specs.Laws.Typing.{OnWires, fits-inherited}
 use Rattle.kernel.specs.Laws.Memory.{round-typed}
 use Rattle.kernel.specs.declared.Value.{Value}
 use Rattle.kernel.specs.declared.Value.the-variants.{Unknown}
-use Rattle.expression.specs.Places.{inputWords, Placement, wholeValue}
+use Rattle.leaves.specs.Words.{inputWords}
+use Rattle.expression.specs.Places.{Placement, wholeValue}
 use Rattle.rounds.specs.Running.{Running, Held, unheld, Holds, Put}
 use Rattle.rounds.proofs.Wires.{wires-counted, wire-placed, wire-valued}
 use Rattle.rounds.proofs.Rounding.{at-or-else, put-length, put-inputs, put-other, put-held}

@@ -5,7 +5,7 @@ use mathlib.Core.List.{List}
 use lib.ListN.{length, getD}
 use Rattle.kernel.specs.Schedules.{pass}
 use Rattle.kernel.specs.declared.Value.{Value}
-use Rattle.expression.specs.Places.{inputWords}
+use Rattle.leaves.specs.Words.{inputWords}
 use Rattle.rounds.specs.Running.{Running}
 
 -- what runs, and a list that names wires, none of them twice

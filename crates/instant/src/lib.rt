@@ -69,7 +69,7 @@ fn solve_in_rounds(
         r (now (memory .exit)) (now (output .exit)) ⌝ }
 {
     let mut words = [0u32; 80];
-    expression::inputs::put_inputs(input, &mut words);
+    leaves::inputs::put_inputs(input, &mut words);
     let from = 2 + inputs;
     let to = from + wires;
     let named = to + 1;
@@ -164,7 +164,7 @@ fn solve_along(
         (now (schedule .entry))) r (now (memory .exit)) (now (output .exit)) ⌝ }
 {
     let mut words = [0u32; 80];
-    expression::inputs::put_inputs(input, &mut words);
+    leaves::inputs::put_inputs(input, &mut words);
     let from = 2 + inputs;
     let to = from + wires;
     let named = to + 1;

@@ -2,7 +2,7 @@
 use sheet_check::map;
 use wires::Wires;
 ghost use lib.ListN.{length};
-ghost use Rattle.expression.specs.Places.{inputWords};
+ghost use Rattle.leaves.specs.Words.{inputWords};
 ghost use Rattle.rounds.specs.Running.{Holds};
 ghost use Rattle.instant.specs.Along.{Along, passedOf};
 

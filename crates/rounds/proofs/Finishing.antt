@@ -24,7 +24,7 @@ use Rattle.kernel.specs.Laws.Instants.{round-monotone}
 use Rattle.kernel.specs.Laws.Memory.{after-typed}
 use Rattle.kernel.specs.declared.Value.{Value}
 use Rattle.kernel.specs.declared.Value.the-variants.{Unknown}
-use Rattle.expression.specs.Places.{inputWords}
+use Rattle.leaves.specs.Words.{inputWords}
 use Rattle.rounds.specs.Running.{Held, unheld, held, Holds, Running, RunningReads, roundOf, Before}
 use Rattle.rounds.specs.Due.{NotDue}
 use Rattle.rounds.proofs.Wires.{wires-counted}

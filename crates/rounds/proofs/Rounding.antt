@@ -18,7 +18,8 @@ use Rattle.kernel.specs.Laws.Due.{over-length, over-at}
 use Rattle.kernel.specs.Laws.Instants.{round-at}
 use Rattle.kernel.specs.declared.Value.{Value}
 use Rattle.kernel.specs.declared.Value.the-variants.{Unknown}
-use Rattle.expression.specs.Places.{inputWords, Placement, wholeValue}
+use Rattle.leaves.specs.Words.{inputWords}
+use Rattle.expression.specs.Places.{Placement, wholeValue}
 use Rattle.rounds.specs.Running.{Held, unheld, held, Holds, roundOf, Before, Put, left, put}
 use Rattle.rounds.proofs.Wires.{wire-placed, wire-valued}
 

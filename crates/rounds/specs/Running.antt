@@ -20,7 +20,8 @@ use Rattle.kernel.specs.Calls.{Given}
 use Rattle.kernel.specs.Laws.Typing.{OnWires}
 use Rattle.kernel.specs.declared.Value.{Value}
 use Rattle.kernel.specs.declared.Value.the-variants.{Unknown, Known}
-use Rattle.expression.specs.Places.{inputWords, CellsStand}
+use Rattle.leaves.specs.Words.{inputWords}
+use Rattle.expression.specs.Places.{CellsStand}
 
 -- the bytes that passed the checks, with what they say: `row` are the inputs' words, `types` the wires' type bytes, and the map says where
 -- each wire's expression starts and which cell is its first

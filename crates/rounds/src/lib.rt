@@ -13,7 +13,7 @@ ghost use lib.ListN.{length};
 ghost use Rattle.wires.specs.Sets.{member};
 ghost use Rattle.kernel.specs.Systems.{roundOver};
 ghost use Rattle.kernel.specs.Instants.{rounds, finished};
-ghost use Rattle.expression.specs.Places.{inputWords};
+ghost use Rattle.leaves.specs.Words.{inputWords};
 ghost use Rattle.rounds.specs.Running.{RunningReads, Holds, roundOf, Before, Put};
 ghost use Rattle.rounds.specs.Outputs.{Below, wordsOf};
 

@@ -22,8 +22,9 @@ use Rattle.kernel.specs.Values.{isTrue, datumIn}
 use Rattle.operations.specs.Words.{unaryWord, binaryWord}
 use Rattle.kernel.specs.Operations.{unaryOf, binaryOf}
 use Rattle.kernel.specs.Instant.{runs, stored}
-use Rattle.expression.specs.Leaves.{knownBy, leafWord}
-use Rattle.expression.specs.Places.{Placement, Gives, isSeen, preWord}
+use Rattle.leaves.specs.Leaves.{knownBy, leafWord}
+use Rattle.leaves.specs.Words.{isSeen, preWord}
+use Rattle.expression.specs.Places.{Placement, Gives}
 use Rattle.expression.proofs.Views.{Operand, placed, operand-counted, One, Two, Three}
 use Rattle.expression.proofs.Views.{unary-view, binary-view, conditional-view, present-view, reset-view, fby-view, pre-view}
 use Rattle.expression.proofs.Views.{constant-view, wire-view, input-view}

@@ -1,9 +1,9 @@
 // An expression advanced: its value, which is known under finished wires, and its cells stored in place. What an expression reads of the
 // memory are its own cells, so that its operands advance one after the other in one memory.
-// Rests on `operations`, on `leaf` and `cells` of `expression`, and on `rest` for the arm not taken.
+// Rests on `operations`, on `leaf` and `cells` of `leaves`, and on `rest` for the arm not taken.
 use crate::rest;
-use expression::cells;
-use expression::leaf;
+use leaves::cells;
+use leaves::leaf;
 use sheet::Cell;
 use sheet::data;
 use sheet::kinds;
@@ -12,7 +12,7 @@ ghost use mathlib.Core.Path.{_≡_};
 ghost use Prim.Native.Nat.{_+_, _≤_, _<_};
 ghost use lib.ListN.{getD};
 ghost use Rattle.sheet.specs.Kinds.{bodyOf};
-ghost use Rattle.expression.specs.Leaves.{Leaf, leafWord};
+ghost use Rattle.leaves.specs.Leaves.{Leaf, leafWord};
 ghost use Rattle.storing.specs.Advances.{Ready, Advances};
 
 // The word of an expression's value, the place past it and the number of the first cell past its own; the numbers stand apart, as

@@ -6,7 +6,7 @@ use Rattle.expression.proofs.value_of_wire.Statement.{statement}
 use Rattle.expression.proofs.value_of_wire.Tie as tie
 use Rattle.expression.proofs.value_of_wire.Reads as reads
 use Rattle.expression.proofs.value_of_wire.Lts as lts
-use Rattle.expression.proofs.leaf.value_of_word.Reads as value-of-word-reads
+use Rattle.expression.proofs.value_of_word.Reads as value-of-word-reads
 use Rattle.expression.proofs.value.value_expression.Reads as value-expression-reads
 
 value-expression-requires : tie.Need-value-expression-requires

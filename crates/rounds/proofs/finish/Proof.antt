@@ -5,7 +5,7 @@ use mathlib.Core.Path.{_≡_, refl, sym, _∙_}
 use native.Mathlib.Omega.{arith}
 use Rattle.wires.specs.Sets.{member, tally}
 use Rattle.wires.specs.Laws.{tally-bound}
-use Rattle.expression.specs.Places.{inputWords}
+use Rattle.leaves.specs.Words.{inputWords}
 use Rattle.rounds.specs.Running.{RunningReads}
 use Rattle.rounds.proofs.Finishing.{Rounded, unrounded, before-here, more-known, one-more, ended}
 use Rattle.rounds.proofs.finish.Statement.{statement}

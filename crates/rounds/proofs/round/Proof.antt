@@ -5,7 +5,7 @@ use native.Mathlib.Omega.{arith}
 use borrow.Author.Needs.{needs}
 use Rattle.wires.specs.Sets.{member, LowestMissing}
 use Rattle.wires.specs.Laws.{lowest-missing-rises}
-use Rattle.expression.specs.Places.{inputWords}
+use Rattle.leaves.specs.Words.{inputWords}
 use Rattle.rounds.specs.Running.{Before}
 use Rattle.rounds.proofs.Rounding.{Midway, begun, placed, further, round-done}
 use Rattle.rounds.proofs.round.Statement.{statement}

@@ -37,7 +37,8 @@ use Rattle.sheet.specs.Laws.Lists.{both}
 use Rattle.kernel.specs.Laws.Given.{given-by}
 use Rattle.kernel.specs.Laws.Memory.{given-valid}
 use Rattle.rounds.specs.Running.{Running}
-use Rattle.expression.specs.Places.{inputWords, InputsPut, CellsStand, none, more}
+use Rattle.leaves.specs.Words.{inputWords, InputsPut}
+use Rattle.expression.specs.Places.{CellsStand, none, more}
 
 abbrev pub Bytes : List ℕ → Type 0
 Bytes s = (i : ℕ) → getD s i 0 < 256

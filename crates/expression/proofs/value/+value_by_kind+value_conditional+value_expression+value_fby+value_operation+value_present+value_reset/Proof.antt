@@ -29,8 +29,8 @@ use Rattle.expression.proofs.value.value_present.Reads as present
 use Rattle.expression.proofs.value.value_present.Kinds as present-kinds
 use Rattle.expression.proofs.value.value_reset.Reads as reset
 use Rattle.expression.proofs.value.value_reset.Kinds as reset-kinds
-use Rattle.expression.proofs.cells.is_seen.Reads as is-seen-reads
-use Rattle.expression.proofs.leaf.value_leaf.Reads as value-leaf-reads
+use Rattle.leaves.proofs.cells.is_seen.Reads as is-seen-reads
+use Rattle.leaves.proofs.leaf.value_leaf.Reads as value-leaf-reads
 use Rattle.expression.proofs.value.unknown.Reads as unknown-reads
 use Rattle.expression.proofs.value.value_pre.Reads as value-pre-reads
 use Rattle.operations.proofs.binary.Reads as binary-reads

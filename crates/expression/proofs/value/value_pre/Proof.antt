@@ -9,7 +9,7 @@ use Rattle.expression.proofs.value.value_pre.Statement.{statement}
 use Rattle.expression.proofs.value.value_pre.Tie as tie
 use Rattle.expression.proofs.value.value_pre.Reads as reads
 use Rattle.expression.proofs.value.value_pre.Lts as lts
-use Rattle.expression.proofs.cells.pre_word.Reads as pre-word-reads
+use Rattle.leaves.proofs.cells.pre_word.Reads as pre-word-reads
 use Rattle.sheet.proofs.kinds.body.Reads as body-reads
 use Rattle.sheet_walk.proofs.skip.skip.Reads as skip-reads
 

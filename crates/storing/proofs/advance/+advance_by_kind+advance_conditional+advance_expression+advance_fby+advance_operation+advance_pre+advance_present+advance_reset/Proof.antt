@@ -36,8 +36,8 @@ use Rattle.storing.proofs.advance.+advance_by_kind+advance_conditional+
 use Rattle.storing.proofs.advance.advance_reset.Reads as reset
 use Rattle.storing.proofs.advance.advance_reset.Kinds as reset-kinds
 use Rattle.storing.proofs.advance.+advance_by_kind+advance_conditional+advance_expression+advance_fby+advance_operation+advance_pre+advance_present+advance_reset.Lts-advance_reset as reset-lts
-use Rattle.expression.proofs.cells.is_seen.Reads as is-seen-reads
-use Rattle.expression.proofs.cells.pre_word.Reads as pre-word-reads
+use Rattle.leaves.proofs.cells.is_seen.Reads as is-seen-reads
+use Rattle.leaves.proofs.cells.pre_word.Reads as pre-word-reads
 use Rattle.operations.proofs.binary.Reads as binary-reads
 use Rattle.operations.proofs.choose.Reads as choose-reads
 use Rattle.operations.proofs.unary.Reads as unary-reads

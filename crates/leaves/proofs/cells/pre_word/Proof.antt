@@ -1,11 +1,11 @@
 -- `pre_word` meets its contract.
 use mathlib.Core.Path.{sym, _∙_}
 use borrow.Author.Needs.{needs}
-use Rattle.expression.proofs.cells.pre_word.Statement.{statement}
-use Rattle.expression.proofs.cells.pre_word.Tie as tie
-use Rattle.expression.proofs.cells.pre_word.Reads as reads
-use Rattle.expression.proofs.cells.pre_word.Lts as lts
-use Rattle.expression.proofs.cells.is_seen.Reads as is-seen-reads
+use Rattle.leaves.proofs.cells.pre_word.Statement.{statement}
+use Rattle.leaves.proofs.cells.pre_word.Tie as tie
+use Rattle.leaves.proofs.cells.pre_word.Reads as reads
+use Rattle.leaves.proofs.cells.pre_word.Lts as lts
+use Rattle.leaves.proofs.cells.is_seen.Reads as is-seen-reads
 use Rattle.sheet.proofs.bodies.body_at.Reads as body-at-reads
 use Rattle.sheet.proofs.memory.word_in.Reads as word-in-reads
 

@@ -8,8 +8,8 @@ use lib.ListN.{getD}
 use Rattle.wires.specs.Sets.{member}
 use Rattle.sheet.specs.Kinds.{bodyOf}
 use Rattle.sheet.specs.Readings.{bodyAt, Whole}
-use Rattle.expression.specs.Places.{firstInput}
-use Rattle.expression.specs.declared.Valued.{Valued}
+use Rattle.leaves.specs.Words.{firstInput}
+use Rattle.leaves.specs.declared.Valued.{Valued}
 
 -- a leaf stands at the place; a wire that it names is one of 64, and an input one of 16
 pub record Leaf (sheet : List ℕ) (at : ℕ) : Type 0 where

@@ -2,13 +2,13 @@
 use Prim.Native.Nat.{_+_}
 use mathlib.Core.Path.{_∙_}
 use native.Mathlib.Omega.{arith}
-use Rattle.expression.proofs.Leaves.{two-bytes, number-body, wire-byte, entry-byte}
-use Rattle.expression.proofs.Leaves.{word-of-number, word-of-wire, word-of-input, word-of-boolean}
+use Rattle.leaves.proofs.Leaves.{two-bytes, number-body, wire-byte, entry-byte}
+use Rattle.leaves.proofs.Leaves.{word-of-number, word-of-wire, word-of-input, word-of-boolean}
 use borrow.Author.Needs.{needs}
-use Rattle.expression.proofs.leaf.word_of.Statement.{statement}
-use Rattle.expression.proofs.leaf.word_of.Tie as tie
-use Rattle.expression.proofs.leaf.word_of.Reads as reads
-use Rattle.expression.proofs.leaf.word_of.Lts as lts
+use Rattle.leaves.proofs.leaf.word_of.Statement.{statement}
+use Rattle.leaves.proofs.leaf.word_of.Tie as tie
+use Rattle.leaves.proofs.leaf.word_of.Reads as reads
+use Rattle.leaves.proofs.leaf.word_of.Lts as lts
 use Rattle.numbers.proofs.word_at.Reads as word-at-reads
 
 shared-slice-read-kind : tie.Need-shared-slice-read-kind

@@ -8,11 +8,11 @@ use lib.Seq.{getD-set-same, getD-set-other}
 use borrow.Author.Count.{below-more}
 use borrow.Author.Needs.{needs}
 use Rattle.sheet.specs.Rows.{entryAt}
-use Rattle.expression.specs.Places.{firstInput, InputsPut}
-use Rattle.expression.proofs.inputs.put_inputs.Statement.{statement}
-use Rattle.expression.proofs.inputs.put_inputs.Tie as tie
-use Rattle.expression.proofs.inputs.put_inputs.Reads as reads
-use Rattle.expression.proofs.inputs.put_inputs.Lts as lts
+use Rattle.leaves.specs.Words.{firstInput, InputsPut}
+use Rattle.leaves.proofs.inputs.put_inputs.Statement.{statement}
+use Rattle.leaves.proofs.inputs.put_inputs.Tie as tie
+use Rattle.leaves.proofs.inputs.put_inputs.Reads as reads
+use Rattle.leaves.proofs.inputs.put_inputs.Lts as lts
 use Rattle.numbers.proofs.word_at.Reads as word-at-reads
 
 -- one entry more

@@ -5,7 +5,7 @@ ghost use mathlib.Core.Path.{_≡_};
 ghost use Prim.Native.Nat.{_+_, _*_, _≤_};
 ghost use lib.ListN.{length};
 ghost use Rattle.sheet.specs.Readings.{Whole};
-ghost use Rattle.expression.specs.Places.{isSeen, preWord};
+ghost use Rattle.leaves.specs.Words.{isSeen, preWord};
 
 // Whether a place sees its cell as started: the cell is so, and the place is not fresh.
 pub fn is_seen(memory: &[u8], cell: usize, fresh: bool) -> bool

@@ -1,8 +1,8 @@
 -- `body` meets its contract: of the leaves only a number's constant has four bytes.
 use borrow.Author.Needs.{needs}
-use Rattle.expression.proofs.Rows.{leaf-body}
-use Rattle.expression.proofs.leaf.body.Statement.{statement}
-use Rattle.expression.proofs.leaf.body.Tie as tie
+use Rattle.leaves.proofs.Leaves.{leaf-body}
+use Rattle.leaves.proofs.leaf.body.Statement.{statement}
+use Rattle.leaves.proofs.leaf.body.Tie as tie
 
 returns : tie.Need-returns
 returns c = search needs

@@ -1,4 +1,4 @@
--- What the bytes of a leaf show: its body, and the word that it stands for.
+-- What the bytes of a leaf show: its body, by the table of kinds, and the word that it stands for.
 use Prim.Native.Nat.{ℕ, _+_, _≤_, _<_}
 use mathlib.Core.Path.{_≡_, refl, sym, ap, _∙_}
 use mathlib.Core.Bool.{Bool, true, false}
@@ -10,9 +10,25 @@ use borrow.Author.Tests.{eq-eqb, ne-eqb, eqb-true}
 use Rattle.numbers.specs.Words.{wordAt}
 use Rattle.sheet.specs.Kinds.{bodyOf}
 use Rattle.sheet.specs.Readings.{bodyAt}
-use Rattle.expression.specs.Places.{firstInput}
-use Rattle.expression.specs.Leaves.{Leaf, knownBy, leafWord}
-use Rattle.expression.proofs.Rows.{leaf-body, leaf-sized}
+use Rattle.sheet.specs.Laws.Readings.{kinds-between, _▸_, end}
+use Rattle.leaves.specs.Words.{firstInput}
+use Rattle.leaves.specs.Leaves.{Leaf, knownBy, leafWord}
+
+-- the body of a leaf: one byte, but of a number's constant four
+abbrev LeafBody : ℕ → Type 0
+LeafBody k = (1 ≤ bodyOf k) × ((k ≡ 1 → ⊥) → 1 ≡ bodyOf k)
+
+leaf-row : (k : ℕ) → k < 4 → LeafBody k
+leaf-row k below = kinds-between LeafBody {low = 0} (one ▸ (omega arith, λ n. absurd (n refl)) ▸ one ▸ one ▸ end) k (omega arith) (omega arith)
+  where
+    one : {n : ℕ} → (1 ≤ 1) × ((n ≡ 1 → ⊥) → _≡_ {A = ℕ} 1 1)
+    one = (omega arith, λ n. refl)
+
+pub leaf-sized : (k : ℕ) → k < 4 → 1 ≤ bodyOf k
+leaf-sized k below = leaf-row k below .0
+
+pub leaf-body : (k : ℕ) → k < 4 → (k ≡ 1 → ⊥) → 1 ≡ bodyOf k
+leaf-body k below = leaf-row k below .1
 
 module _ {s : List ℕ} {at : ℕ} (l : Leaf s at) where
   abbrev kind : ℕ

@@ -1,15 +1,15 @@
 -- `value_leaf` meets its contract.
 use mathlib.Core.Path.{_∙_}
 use native.Mathlib.Omega.{arith}
-use Rattle.expression.proofs.Leaves.{two-bytes, wire-byte, named-known}
+use Rattle.leaves.proofs.Leaves.{two-bytes, wire-byte, named-known}
 use borrow.Author.Needs.{needs}
-use Rattle.expression.proofs.leaf.value_leaf.Statement.{statement}
-use Rattle.expression.proofs.leaf.value_leaf.Tie as tie
-use Rattle.expression.proofs.leaf.value_leaf.Reads as reads
-use Rattle.expression.proofs.leaf.value_leaf.Lts as lts
-use Rattle.expression.proofs.leaf.body.Reads as body-reads
-use Rattle.expression.proofs.leaf.is_known.Reads as is-known-reads
-use Rattle.expression.proofs.leaf.word_of.Reads as word-of-reads
+use Rattle.leaves.proofs.leaf.value_leaf.Statement.{statement}
+use Rattle.leaves.proofs.leaf.value_leaf.Tie as tie
+use Rattle.leaves.proofs.leaf.value_leaf.Reads as reads
+use Rattle.leaves.proofs.leaf.value_leaf.Lts as lts
+use Rattle.leaves.proofs.leaf.body.Reads as body-reads
+use Rattle.leaves.proofs.leaf.is_known.Reads as is-known-reads
+use Rattle.leaves.proofs.leaf.word_of.Reads as word-of-reads
 
 shared-slice-read-kind : tie.Need-shared-slice-read-kind
 shared-slice-read-kind c = search needs

@@ -1,10 +1,10 @@
 -- `is_seen` meets its contract.
 use mathlib.Core.Path.{_∙_}
 use borrow.Author.Needs.{needs}
-use Rattle.expression.proofs.cells.is_seen.Statement.{statement}
-use Rattle.expression.proofs.cells.is_seen.Tie as tie
-use Rattle.expression.proofs.cells.is_seen.Reads as reads
-use Rattle.expression.proofs.cells.is_seen.Lts as lts
+use Rattle.leaves.proofs.cells.is_seen.Statement.{statement}
+use Rattle.leaves.proofs.cells.is_seen.Tie as tie
+use Rattle.leaves.proofs.cells.is_seen.Reads as reads
+use Rattle.leaves.proofs.cells.is_seen.Lts as lts
 use Rattle.sheet.proofs.memory.is_started.Reads as is-started-reads
 
 returns : tie.Need-returns

@@ -1,14 +1,10 @@
-// The value of a constant, a wire or an input, kinds 0 to 3. Rests on `data` for what a word stands for and on the set of wires.
+// What a constant, a wire or an input stands for, kinds 0 to 3. Rests on `numbers` for a constant and on the set of known wires.
 use crate::Valued;
-use kernel::Value;
-use sheet::data;
 use wires::Wires;
 ghost use mathlib.Core.Path.{_≡_};
 ghost use Prim.Native.Nat.{_<_};
-ghost use Rattle.sheet.specs.Data.{typeOfByte};
 ghost use Rattle.sheet.specs.Kinds.{bodyOf};
-ghost use Rattle.expression.specs.Places.{valueOfWord};
-ghost use Rattle.expression.specs.Leaves.{Leaf, knownBy, leafWord, leafValued};
+ghost use Rattle.leaves.specs.Leaves.{Leaf, knownBy, leafWord, leafValued};
 
 // Where the inputs' words begin, behind those of all wires that there can be.
 pub const FIRST_INPUT: usize = 64;
@@ -42,17 +38,6 @@ pub fn word_of(sheet: &[u8], words: &[u32; 80], at: usize) -> u32
         return words[FIRST_INPUT + named];
     }
     named as u32
-}
-
-// A value of the type, from whether it is known and its word.
-pub fn value_of_word(known: bool, asked: u8, word: u32) -> Value
-    ensures { λ r. ⌜ r ≡ valueOfWord known (typeOfByte asked) word ⌝ }
-{
-    if known {
-        Value::Known(data::datum_of(asked, word))
-    } else {
-        Value::Unknown
-    }
 }
 
 // How many bytes the body has.

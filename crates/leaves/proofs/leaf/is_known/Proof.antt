@@ -1,8 +1,8 @@
 -- `is_known` meets its contract.
 use mathlib.Core.Path.{_∙_}
 use borrow.Author.Tests.{eq-eqb, ne-eqb}
-use Rattle.expression.proofs.leaf.is_known.Statement.{statement}
-use Rattle.expression.proofs.leaf.is_known.Tie as tie
+use Rattle.leaves.proofs.leaf.is_known.Statement.{statement}
+use Rattle.leaves.proofs.leaf.is_known.Tie as tie
 
 has-requires : tie.Need-has-requires
 has-requires c κs = c .before .pre (c .if1 .taken)

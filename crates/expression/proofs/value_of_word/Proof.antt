@@ -2,8 +2,8 @@
 use mathlib.Core.Path.{ap, _∙_}
 use borrow.Author.Needs.{needs}
 use Rattle.kernel.specs.declared.Value.the-variants.{Known}
-use Rattle.expression.proofs.leaf.value_of_word.Statement.{statement}
-use Rattle.expression.proofs.leaf.value_of_word.Tie as tie
+use Rattle.expression.proofs.value_of_word.Statement.{statement}
+use Rattle.expression.proofs.value_of_word.Tie as tie
 
 datum-of-requires : tie.Need-datum-of-requires
 datum-of-requires c κs = search needs

@@ -3,7 +3,7 @@ use crate::leaf;
 ghost use mathlib.Core.Path.{_≡_};
 ghost use Prim.Native.Nat.{_≤_};
 ghost use lib.ListN.{length};
-ghost use Rattle.expression.specs.Places.{InputsPut};
+ghost use Rattle.leaves.specs.Words.{InputsPut};
 
 // Puts the entries of an input row; what the words of the wires become is free, as none is known yet.
 pub fn put_inputs(input: &[u8], words: &mut [u32; 80])

@@ -1,23 +1,17 @@
--- The owners of cells: the bytes of the cell that the expression at a place owns, and a list that notes the owner of each cell.
+-- A list that notes the owner of each cell, and the start of a memory by it.
 use Prim.Native.Nat.{ℕ, _*_, _≤_}
 use mathlib.Core.Path.{_≡_}
 use mathlib.Core.Bool.{cond}
-use mathlib.Core.List.{List, []}
+use mathlib.Core.List.{List}
 use lib.Dec.{eqb}
-use lib.ListN.{length, getD, take}
+use lib.ListN.{length, take}
 use Rattle.sheet.specs.Expressions.{CellForm}
-use Rattle.sheet.specs.Kinds.{cellsOf}
-use Rattle.sheet.specs.Memory.{cellBytes, memoryBytes, startMemory, ownCell}
-use Rattle.sheet.specs.Readings.{bodyAt}
+use Rattle.sheet.specs.Memory.{memoryBytes, startMemory}
 use Rattle.sheet.specs.Typing.{Pairwise}
 use Rattle.sheet_expressions.specs.Map.{CellNoted}
 use Rattle.sheet.specs.declared.Refusal.the-variants.{MemoryLength}
 use Rattle.sheet.specs.declared.Started.{Started as StartAnswer}
 use Rattle.sheet.specs.declared.Started.the-variants.{Refused, Done}
-
--- the bytes of the cell that the expression at a place owns, if it owns one
-abbrev pub ownBytes : List ℕ → ℕ → List ℕ
-ownBytes s at = cond (eqb (cellsOf (getD s at 0)) 0) [] (cellBytes (ownCell (getD s at 0) (bodyAt s at)))
 
 -- the first so many entries note one cell each
 pub record Noted (s entries : List ℕ) (count : ℕ) : Type 0 where

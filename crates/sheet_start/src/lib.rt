@@ -1,23 +1,17 @@
 // The start of a memory: each cell that the check of a sheet noted is put as it is at the start.
-// Rests on `check_map`, on `kinds` and `bodies` for the expression that owns a cell, and on `data` and `memory` for the cells.
-use sheet::Cell;
+// Rests on `check_map`, on `sheet_cells` for the cell that an expression owns, and on `memory` for its bytes.
 use sheet::Checked;
 use sheet::Refusal;
 use sheet::Started;
-use sheet::bodies;
-use sheet::data;
-use sheet::kinds;
 use sheet::memory;
 ghost use mathlib.Core.Path.{_≡_};
 ghost use mathlib.Core.Bool.{cond};
-ghost use Prim.Native.Nat.{_+_, _*_, _≤_};
-ghost use lib.ListN.{length, getD};
-ghost use lib.Seq.{sets};
-ghost use Rattle.sheet.specs.Readings.{bodyAt, Whole};
-ghost use Rattle.sheet.specs.Memory.{memoryBytes, startMemory, ownCell, startCall};
+ghost use Prim.Native.Nat.{_*_};
+ghost use lib.ListN.{length};
+ghost use Rattle.sheet.specs.Memory.{memoryBytes, startMemory, startCall};
 ghost use Rattle.sheet.specs.declared.Refusal.the-variants.{MemoryLength};
 ghost use Rattle.sheet.specs.declared.Started.the-variants.{Refused, Done};
-ghost use Rattle.sheet_start.specs.Owners.{ownBytes, Noted, Starts};
+ghost use Rattle.sheet_start.specs.Owners.{Noted, Starts};
 
 // The start: the memory gets its starting cells, or it is left as it is where 1 to 12 refuse.
 pub fn start(sheet: &[u8], memory: &mut [u8]) -> Started
@@ -62,7 +56,7 @@ fn fill(sheet: &[u8], cells: &[u16; 64], count: usize, memory: &mut [u8])
     let mut k = 0;
     while k < count {
         let owner = (cells[k] / 4) as usize;
-        memory::put_cell(memory, k, own_cell(sheet, owner));
+        memory::put_cell(memory, k, sheet_cells::own_cell(sheet, owner));
         k = k + 1;
     }
 }
@@ -78,28 +72,4 @@ fn started(filled: bool) -> Started
         why: Refusal::MemoryLength,
         place: 0,
     }
-}
-
-// Puts the cell that the expression at `at` owns, if it owns one, as the cell with number k.
-pub fn put_own(sheet: &[u8], at: usize, memory: &mut [u8], k: usize)
-    requires { ⌜ Whole (now sheet) at ⌝ }
-    requires { ⌜ 5 * k + length (ownBytes (now sheet) at) ≤ length (now memory) ⌝ }
-    ensures { λ _. ⌜ now (memory .exit) ≡ sets (now (memory .entry)) (5 * k) (ownBytes (now (sheet .entry)) at) ⌝ }
-{
-    if kinds::cells(sheet[at]) != 0 {
-        memory::put_cell(memory, k, own_cell(sheet, at));
-    }
-}
-
-// The cell of the expression at `at`, as it is at the start: that of an fby, which has no body, or of a pre with its constant.
-fn own_cell(sheet: &[u8], at: usize) -> Cell
-    requires { ⌜ Whole (now sheet) at ⌝ }
-    ensures { λ r. ⌜ r ≡ ownCell (getD (now (sheet .entry)) at 0) (bodyAt (now (sheet .entry)) at) ⌝ }
-{
-    let kind = sheet[at];
-    if kinds::body(kind) == 0 {
-        return Cell::NotStarted;
-    }
-    let constant = bodies::body_at(sheet, at);
-    Cell::Started(data::datum_of(kinds::own_type(kind), constant))
 }

@@ -15,8 +15,8 @@ use Rattle.sheet.specs.Readings.{Reading, got, readEach, bodyAt, readExpression
 use Rattle.sheet.specs.Sheets.{formsOf}
 use Rattle.sheet.specs.Laws.Readings.{expression-view, run-view, no-level, operands-counted, run-extent, forms-of-kind}
 use Rattle.sheet_walk.specs.Skips.{Readable}
-use Rattle.sheet_start.specs.Owners.{ownBytes}
-use Rattle.sheet_start.proofs.Starting.{startBytes, start-append, own-start, own-length}
+use Rattle.sheet_cells.specs.Owned.{ownBytes}
+use Rattle.sheet_cells.proofs.Starting.{startBytes, start-append, own-start, own-length}
 use Rattle.storing.specs.Advances.{Restarts}
 
 -- with `pending` expressions ahead from `at` on and c cells before them, they end at n with k cells, which start as these bytes

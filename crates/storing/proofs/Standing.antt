@@ -11,9 +11,10 @@ use Rattle.numbers.specs.Laws.{sets-past, sets-append}
 use Rattle.sheet.specs.Expressions.{Expression, constant, wire, input, unary, binary, choose, reset, pre, fby}
 use Rattle.sheet.specs.Expressions.{CellForm, cellForms, cellCount}
 use Rattle.sheet.specs.Memory.{cellBytes, memoryBytes, startMemory}
+use Rattle.sheet.specs.Laws.Memory.{cell-length}
 use Rattle.sheet.specs.Laws.Readings.{forms-length}
 use Rattle.sheet.specs.declared.Cell.{Cell}
-use Rattle.sheet.specs.declared.Cell.the-variants.{NotStarted, Started}
+use Rattle.sheet.specs.declared.Cell.the-variants.{NotStarted}
 use Rattle.kernel.specs.Values.{isTrue}
 use Rattle.kernel.specs.Instant.{Environment, runs, value, kept, stored}
 use Rattle.expression.specs.Places.{CellStands, CellsStand, none, more}
@@ -42,10 +43,6 @@ module _ {memory : List ℕ} (vs : List ℕ) (i : ℕ) where
       → CellsStand (sets memory i vs) cells k forms
   cells-past h none = none
   cells-past h (more c s) = more (cell-past h c) (cells-past (omega arith) s)
-
-pub cell-length : (c : Cell) → length (cellBytes c) ≡ 5
-cell-length NotStarted = refl
-cell-length (Started d) = refl
 
 pub put-again : {memory : List ℕ} {cells : List Cell} {k : ℕ} {forms : List CellForm} → CellsStand memory cells k forms
     → k + length forms ≤ length cells → sets memory (5 * k) (memoryBytes (take (length forms) (drop k cells))) ≡ memory

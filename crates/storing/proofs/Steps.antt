@@ -10,7 +10,7 @@ use lib.Seq.{sets, length-sets}
 use Rattle.numbers.specs.Laws.{sets-append}
 use Rattle.sheet.specs.Expressions.{Expression, cellForms, cellCount}
 use Rattle.sheet.specs.Memory.{cellBytes, memoryBytes}
-use Rattle.sheet.specs.Laws.Memory.{memory-length}
+use Rattle.sheet.specs.Laws.Memory.{cell-length, memory-length}
 use Rattle.sheet.specs.declared.Cell.{Cell}
 use Rattle.sheet_walk.specs.declared.skip.Skipped.{Skipped}
 use Rattle.kernel.specs.Instant.{kept, stored}
@@ -19,7 +19,7 @@ use Rattle.expression.proofs.Views.{Operand, placed, readable, operand-counted,
 use Rattle.storing.specs.Advances.{Ready, Advances, Arm, Rests}
 use Rattle.storing.specs.declared.advance.Advanced.{Advanced}
 use Rattle.storing.proofs.Splices.{sets-turned}
-use Rattle.storing.proofs.Standing.{cells-past, cell-length, memory-append, kept-length, stored-length}
+use Rattle.storing.proofs.Standing.{cells-past, memory-append, kept-length, stored-length}
 
 module _ {sheet memory words : List ℕ} {level asked at cell : ℕ}
     (p : Ready sheet memory words level asked at cell) where

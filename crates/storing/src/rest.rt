@@ -1,5 +1,5 @@
 // An arm that does not advance: its cells stay as they are, or get their starting memory where it is fresh.
-// Rests on `skip` for the walk past it and on `sheet_start` for its cells at the start.
+// Rests on `skip` for the walk past it and on `sheet_cells` for its cells at the start.
 use sheet::kinds;
 use sheet_walk::skip;
 use sheet_walk::skip::Skipped;
@@ -17,7 +17,7 @@ fn restart(sheet: &[u8], at: usize, cell: usize, memory: &mut [u8]) -> Skipped
     let mut pending = 1;
     while 0 < pending {
         let kind = sheet[next];
-        sheet_start::put_own(sheet, next, memory, count);
+        sheet_cells::put_own(sheet, next, memory, count);
         pending = pending - 1 + kinds::operands(kind);
         count += kinds::cells(kind);
         next += 1 + kinds::body(kind);

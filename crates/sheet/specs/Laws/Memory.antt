@@ -96,7 +96,7 @@ row-valid types row e =
     subst (ValidRow types) (same-result e₂) (data-valid row 0 types)
 
 -- What is written: its length, and how it reads back.
-cell-length : (c : Cell) → length (cellBytes c) ≡ 5
+pub cell-length : (c : Cell) → length (cellBytes c) ≡ 5
 cell-length NotStarted = refl
 cell-length (Started d) = refl
 

@@ -5,7 +5,7 @@ use native.Mathlib.Omega.{arith}
 use lib.ListN.{length}
 use lib.Seq.{sets}
 use Rattle.sheet.specs.Expressions.{cellForms}
-use Rattle.sheet_start.proofs.Starting.{startBytes}
+use Rattle.sheet_cells.proofs.Starting.{startBytes}
 use Rattle.storing.specs.Advances.{Room}
 use Rattle.storing.proofs.Anew.{Left, Step, step, begun, ended}
 use Rattle.storing.proofs.rest.restart.Statement.{statement}

@@ -3,8 +3,8 @@ use mathlib.Core.Path.{ap}
 use borrow.Author.Tests.{eq-eqb, ne-eqb}
 use borrow.Author.Needs.{needs}
 use Rattle.sheet.specs.declared.Cell.the-variants.{Started}
-use Rattle.sheet_start.proofs.own_cell.Statement.{statement}
-use Rattle.sheet_start.proofs.own_cell.Tie as tie
+use Rattle.sheet_cells.proofs.own_cell.Statement.{statement}
+use Rattle.sheet_cells.proofs.own_cell.Tie as tie
 
 shared-slice-read-kind : tie.Need-shared-slice-read-kind
 shared-slice-read-kind c = search needs

@@ -2,9 +2,9 @@
 use native.Mathlib.Omega.{arith}
 use borrow.Author.Tests.{eq-eqb, ne-eqb}
 use borrow.Author.Needs.{needs}
-use Rattle.sheet_start.proofs.Starting.{own-length}
-use Rattle.sheet_start.proofs.put_own.Statement.{statement}
-use Rattle.sheet_start.proofs.put_own.Tie as tie
+use Rattle.sheet_cells.proofs.Starting.{own-length}
+use Rattle.sheet_cells.proofs.put_own.Statement.{statement}
+use Rattle.sheet_cells.proofs.put_own.Tie as tie
 
 shared-slice-read-cells : tie.Need-shared-slice-read-cells
 shared-slice-read-cells c = search needs

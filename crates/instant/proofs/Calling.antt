@@ -37,8 +37,8 @@ use Rattle.leaves.specs.Words.{inputWords}
 use Rattle.rounds.specs.Running.{Held, unheld, held, Holds}
 use Rattle.rounds.specs.Outputs.{Below, wordsOf, output-words}
 use Rattle.rounds.proofs.Rounding.{out-unknown}
-use Rattle.instant.specs.Along.{Along}
-use Rattle.instant.specs.Settled.{Settled, storedOf}
+use Rattle.pass.specs.Along.{Along}
+use Rattle.next_memory.specs.Settled.{Settled, storedOf}
 use Rattle.instant.specs.Leaves.{Answers, Granted, Leaves}
 use Rattle.given.specs.Answers.{givenAnswer}
 use Rattle.given.specs.declared.Given.the-variants.{Refused as RefusedGiven, Passed as PassedGiven}

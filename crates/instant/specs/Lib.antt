@@ -1,3 +1,1 @@
-pub mod Along
-pub mod Settled
 pub mod Leaves

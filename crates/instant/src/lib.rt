@@ -1,15 +1,12 @@
 // The two instants as calls, in rounds and along a schedule: the checks, the values, then the next memory and the outputs.
-// Rests on `given` for the checks 1 to 16, on `schedule` for 17 to 19, and on `rounds` and `pass` for the values.
+// Rests on `given` for the checks 1 to 16, on `schedule` for 17 to 19, on `rounds` and `pass` for the values, and on
+// `next_memory` for the storing.
 use given::Given;
 use kernel::InRounds;
 use kernel::Scheduled;
 use schedule::Ordered;
 use sheet::Refusal;
 use wires::Wires;
-
-pub mod pass;
-pub mod store;
-
 ghost use Rattle.kernel.specs.Calls.{roundsCall, scheduledCall};
 ghost use Rattle.instant.specs.Leaves.{Answers, Granted, Leaves};
 
@@ -79,7 +76,7 @@ fn solve_in_rounds(
     let known = solved.known;
     let full = known.count() as usize == types.len();
     if full {
-        store::store(sheet, memory, types, places, firsts, &words);
+        next_memory::store(sheet, memory, types, places, firsts, &words);
         rounds::write_row(&sheet[named..first], &words, output);
     }
     answered(full, solved.rounds, known)
@@ -174,7 +171,7 @@ fn solve_along(
         Ordered::Refused { why, place } => Scheduled::Refused { why, place },
         Ordered::Passed => {
             pass::pass(sheet, memory, types, places, firsts, schedule, &mut words);
-            store::store(sheet, memory, types, places, firsts, &words);
+            next_memory::store(sheet, memory, types, places, firsts, &words);
             rounds::write_row(&sheet[named..first], &words, output);
             Scheduled::Accepted
         }

@@ -1,10 +1,11 @@
-// The pass along a list of wires, each of which is worked out once. Rests on `expression` and on `rounds` for the set and the words.
+// The pass along a list of wires, each of which is worked out once.
+// Rests on `expression` for a wire's value, on `rounds` for the set and the words, and on the map for where it stands.
 use sheet_check::map;
 use wires::Wires;
 ghost use lib.ListN.{length};
 ghost use Rattle.leaves.specs.Words.{inputWords};
 ghost use Rattle.rounds.specs.Running.{Holds};
-ghost use Rattle.instant.specs.Along.{Along, passedOf};
+ghost use Rattle.pass.specs.Along.{Along, passedOf};
 
 // The pass along `list`: the wire at each position gets what its expression yields under the values so far.
 pub fn pass(

@@ -5,10 +5,10 @@ use mathlib.Core.Path.{_≡_, refl, ap, _∙_}
 use native.Mathlib.Omega.{arith}
 use lib.ListN.{length}
 use borrow.Author.Needs.{needs}
-use Rattle.instant.specs.Settled.{Settled}
-use Rattle.instant.proofs.Storing.{Stored, unstored, ready, one-stored, none-stored, all-stored}
-use Rattle.instant.proofs.store.store.Statement.{statement}
-use Rattle.instant.proofs.store.store.Tie as tie
+use Rattle.next_memory.specs.Settled.{Settled}
+use Rattle.next_memory.proofs.Storing.{Stored, unstored, ready, one-stored, none-stored, all-stored}
+use Rattle.next_memory.proofs.store.Statement.{statement}
+use Rattle.next_memory.proofs.store.Tie as tie
 
 abbrev Inv-loop : tie.InvT-loop
 Inv-loop sheet memory₀ types places firsts words w₀ memory w =

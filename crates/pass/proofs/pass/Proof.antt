@@ -3,10 +3,10 @@ use Prim.Native.Nat.{_-_, _≤_}
 use native.Mathlib.Omega.{arith}
 use lib.ListN.{length}
 use borrow.Author.Needs.{needs}
-use Rattle.instant.specs.Along.{Along}
-use Rattle.instant.proofs.Passing.{Sofar, unpassed, placed, further, passed}
-use Rattle.instant.proofs.pass.pass.Statement.{statement}
-use Rattle.instant.proofs.pass.pass.Tie as tie
+use Rattle.pass.specs.Along.{Along}
+use Rattle.pass.proofs.Passing.{Sofar, unpassed, placed, further, passed}
+use Rattle.pass.proofs.pass.Statement.{statement}
+use Rattle.pass.proofs.pass.Tie as tie
 
 abbrev Inv-loop : tie.InvT-loop
 Inv-loop sheet memory types places firsts list words₀ known₀ p₀ words known p =

@@ -1,11 +1,12 @@
-// The next memory: all wires advance, one after the other, in one memory. Rests on `advance` for one expression.
+// The next memory: all wires advance, one after the other, in one memory.
+// Rests on `advance` of `storing` for one expression, and on the map for where it stands.
 use sheet_check::map;
 use storing::advance;
 ghost use mathlib.Core.Path.{_≡_};
 ghost use mathlib.Core.Bool.{false};
 ghost use Prim.Native.Nat.{_+_, _<_, _≤_};
 ghost use lib.ListN.{getD};
-ghost use Rattle.instant.specs.Settled.{Settled, storedOf};
+ghost use Rattle.next_memory.specs.Settled.{Settled, storedOf};
 
 // Stores the cells of all wires under the finished values, which the words hold. A wire without cells is passed over.
 pub fn store(

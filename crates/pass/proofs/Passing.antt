@@ -27,7 +27,7 @@ use Rattle.expression.specs.Places.{Placement, wholeValue}
 use Rattle.rounds.specs.Running.{Running, Held, unheld, Holds, Put}
 use Rattle.rounds.proofs.Wires.{wires-counted, wire-placed, wire-valued}
 use Rattle.rounds.proofs.Rounding.{at-or-else, put-length, put-inputs, put-other, put-held}
-use Rattle.instant.specs.Along.{Along, passedOf}
+use Rattle.pass.specs.Along.{Along, passedOf}
 
 module _ {s memory types places firsts list start : List ℕ} (a : Along s memory types places firsts list start) where
   abbrev run : Running s memory (inputWords start) types places firsts

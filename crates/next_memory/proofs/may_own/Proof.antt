@@ -3,8 +3,8 @@ use native.Mathlib.Omega.{arith}
 use borrow.Author.Needs.{needs}
 use borrow.Author.Tests.{eqb-true, not-false}
 use Rattle.sheet.specs.Laws.Lists.{never}
-use Rattle.instant.proofs.store.may_own.Statement.{statement}
-use Rattle.instant.proofs.store.may_own.Tie as tie
+use Rattle.next_memory.proofs.may_own.Statement.{statement}
+use Rattle.next_memory.proofs.may_own.Tie as tie
 
 add-next : tie.Need-add-next
 add-next c = search needs

@@ -1,0 +1,2 @@
+-- How a pass goes on.
+pub mod Passing

@@ -1,3 +1,2 @@
--- What the proofs of several functions use.
-pub mod Cells
-pub mod Tests
+-- A sheet that the check passes, and the answer of the tests.
+pub mod Passing

@@ -1,48 +1,13 @@
--- What the checks of the buffers answer.
-use Prim.Native.Nat.{ℕ, _*_, _<_}
-use mathlib.Core.Path.{_≡_}
-use mathlib.Core.Bool.{cond}
-use mathlib.Core.List.{List}
-use lib.Dec.{eqb}
-use lib.ListN.{length, getD}
-use Rattle.sheet.specs.Data.{ValueType, boolean}
-use Rattle.sheet.specs.Expressions.{CellForm, fbyCell}
+-- What the checks of an instant's buffers answer.
+use lib.ListN.{length}
 use Rattle.sheet.specs.Outcomes.{Outcome, refusal, result}
 use Rattle.sheet.specs.Sheets.{sheetForms}
-use Rattle.sheet.specs.Memory.{formByte, memoryOf}
-use Rattle.sheet.specs.Rows.{inputsOf}
-use Rattle.sheet.specs.declared.Refusal.the-variants.{OutputLength}
-use Rattle.sheet_expressions.specs.Map.{formIn}
 use Rattle.kernel.specs.Calls.{Given}
 use Rattle.given.specs.declared.Given.{Given as Answer}
 use Rattle.given.specs.declared.Given.the-variants.{Refused, Passed}
-use Rattle.given.specs.declared.Tested.{Tested}
-use Rattle.given.specs.declared.Tested.the-variants.{Refused as TestRefused, Fine}
 
 -- the refusal, or the four counts of the sheet
 abbrev pub givenAnswer : Outcome Given → Answer
 givenAnswer (refusal why place) = Refused why place
 givenAnswer (result g) =
     Passed (length (g .sheet .inputTypes)) (length (g .sheet .wireTypes)) (length (g .sheet .outputs)) (length (sheetForms (g .sheet)))
-
--- an outcome without its result
-abbrev pub testedOf : {A : Type 0} → Outcome A → Tested
-testedOf (refusal why place) = TestRefused why place
-testedOf (result a) = Fine
-
--- a test that refuses ends the tests
-abbrev pub andTested : Tested → Tested → Tested
-andTested (TestRefused why place) next = TestRefused why place
-andTested Fine next = next
-
--- 12 to 16, of a sheet with cells of these forms, inputs of these types and so many outputs
-abbrev pub buffersTested : List CellForm → List ValueType → (outputs : ℕ) → (memory input output : List ℕ) → Tested
-buffersTested forms types outputs memory input output =
-    andTested (testedOf (memoryOf forms memory))
-    (andTested (testedOf (inputsOf types input))
-    (cond (eqb (length output) (4 * outputs)) Fine (TestRefused OutputLength 0)))
-
--- the entries of the map hold the forms of so many cells
-pub record Formed (fs : List CellForm) (entries : List ℕ) (count : ℕ) : Type 0 where
-  pub counted : length fs ≡ count
-  pub each : (k : ℕ) → k < count → formByte (getD fs k (fbyCell boolean)) ≡ formIn (getD entries k 0)

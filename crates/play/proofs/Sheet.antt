@@ -15,7 +15,7 @@ use Rattle.sheet.specs.Memory.{memoryBytes, startMemory, startOutcome, startCal
 use Rattle.sheet.specs.Laws.Typing.{passed-check}
 use Rattle.sheet.specs.declared.Checked.{Checked}
 use Rattle.sheet.specs.declared.Checked.the-variants.{Passed}
-use Rattle.given.proofs.Tests.{passes}
+use Rattle.given.proofs.Passing.{passes}
 use Rattle.lines.specs.Buffers.{Holds}
 use Rattle.lines.specs.Lines.{shortLine, sheetLine}
 use Rattle.play.specs.Text.{lengthAt, sheetIn, rowsIn, zeros, instantsDue, isComplete, checkedText, bytesText}

@@ -4,8 +4,8 @@ use native.Mathlib.Omega.{arith}
 use borrow.Author.Needs.{needs}
 use lib.ListN.{length, length-take}
 use Rattle.sheet.specs.Sheets.{sheetForms}
-use Rattle.given.specs.Answers.{buffersTested}
-use Rattle.given.proofs.Tests.{noted-forms, Passes, own-tests, own-counts, passes, sheet-refused, buffers-answer}
+use Rattle.buffers.specs.Tests.{buffersTested}
+use Rattle.given.proofs.Passing.{noted-forms, Passes, own-tests, own-counts, passes, sheet-refused, buffers-answer}
 use Rattle.given.proofs.given_of.Statement.{statement}
 use Rattle.given.proofs.given_of.Tie as tie
 

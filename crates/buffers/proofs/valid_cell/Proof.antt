@@ -2,9 +2,9 @@
 use mathlib.Core.Path.{sym, _∙_}
 use borrow.Author.Tests.{eq-eqb, ne-eqb, le-leb, lt-leb}
 use borrow.Author.Needs.{needs}
-use Rattle.given.proofs.Cells.{not-started, started}
-use Rattle.given.proofs.valid_cell.Statement.{statement}
-use Rattle.given.proofs.valid_cell.Tie as tie
+use Rattle.buffers.proofs.Cells.{not-started, started}
+use Rattle.buffers.proofs.valid_cell.Statement.{statement}
+use Rattle.buffers.proofs.valid_cell.Tie as tie
 
 stands-for-requires : tie.Need-stands-for-requires
 stands-for-requires c κs = search needs

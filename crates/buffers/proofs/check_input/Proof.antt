@@ -8,9 +8,9 @@ use borrow.Author.Needs.{needs}
 use Rattle.sheet.specs.Data.{typeOfByte}
 use Rattle.sheet.specs.Outcomes.{lowest}
 use Rattle.sheet.specs.Rows.{wrongAt, inputsOf}
-use Rattle.given.proofs.Tests.{length-off, place-wrong, none-wrong}
-use Rattle.given.proofs.check_input.Statement.{statement}
-use Rattle.given.proofs.check_input.Tie as tie
+use Rattle.buffers.proofs.Tests.{length-off, place-wrong, none-wrong}
+use Rattle.buffers.proofs.check_input.Statement.{statement}
+use Rattle.buffers.proofs.check_input.Tie as tie
 
 mul-if1 : tie.Need-mul-if1
 mul-if1 c = omega (arith, c .before .before .pre)

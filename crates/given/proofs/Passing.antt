@@ -1,4 +1,4 @@
--- What the checks of a length and then of each part come to, and how those of the buffers make the answer.
+-- What a sheet that the check passes has, and how the tests of the buffers make the answer.
 use Prim.Native.Nat.{ℕ, zero, suc, _+_, _*_, _-_, _≤_, _<_}
 use mathlib.Core.Path.{_≡_, refl, sym, ap, _∙_}
 use mathlib.Core.Bool.{Bool, true, false, cond}
@@ -7,10 +7,9 @@ use native.Mathlib.Omega.{arith}
 use lib.Dec.{eqb}
 use lib.ListN.{length, getD, take, drop, length-map}
 use lib.Seq.{getD-take}
-use borrow.Author.Tests.{eq-eqb, ne-eqb, lt-ltb, le-ltb}
 use Rattle.sheet.specs.Data.{boolean, typeOfByte}
 use Rattle.sheet.specs.Expressions.{CellForm, fbyCell}
-use Rattle.sheet.specs.Outcomes.{Outcome, refusal, result, followedBy, lowest, unlessLength, unlessAny}
+use Rattle.sheet.specs.Outcomes.{Outcome, refusal, result, followedBy}
 use Rattle.sheet.specs.Readings.{Reading, refused, got}
 use Rattle.sheet.specs.Sheets.{Sheet, sheetForms, before, readSheet, sheetOf, checkedOf, checkOf}
 use Rattle.sheet.specs.Memory.{formByte, memoryOf}
@@ -25,26 +24,12 @@ use Rattle.sheet.specs.declared.Refusal.the-variants.{TypeByte, OutputLength}
 use Rattle.sheet.specs.declared.Checked.the-variants.{Refused as CheckRefused, Passed as CheckPassed}
 use Rattle.sheet_expressions.specs.Map.{CellNoted, formIn}
 use Rattle.kernel.specs.Calls.{givenOf}
-use Rattle.given.specs.Answers.{givenAnswer, testedOf, andTested, buffersTested, Formed}
+use Rattle.buffers.specs.Tests.{testedOf, andTested, buffersTested, Formed}
+use Rattle.buffers.specs.declared.Tested.{Tested}
+use Rattle.buffers.specs.declared.Tested.the-variants.{Refused, Fine}
+use Rattle.given.specs.Answers.{givenAnswer}
 use Rattle.given.specs.declared.Given.{Given as Answer}
 use Rattle.given.specs.declared.Given.the-variants.{Refused as GivenRefused, Passed}
-use Rattle.given.specs.declared.Tested.{Tested}
-use Rattle.given.specs.declared.Tested.the-variants.{Refused, Fine}
-
--- a length, then the lowest place that passes a test
-module _ {A : Type 0} (unfit wrong : Refusal) (n must bound : ℕ) (test : ℕ → Bool) (a : A) where
-  abbrev whole : Outcome A
-  whole = unlessLength unfit n must (unlessAny wrong test bound (result a))
-
-  pub length-off : (n ≡ must → ⊥) → Refused unfit 0 ≡ testedOf whole
-  length-off off = rw (ne-eqb n must off)
-
-  module _ (place : ℕ) (fits : n ≡ must) (found : place ≡ lowest test bound) where
-    pub place-wrong : place < bound → Refused wrong place ≡ testedOf whole
-    place-wrong l = rw (eq-eqb n must fits, ← found, lt-ltb place bound l)
-
-    pub none-wrong : bound ≤ place → Fine ≡ testedOf whole
-    none-wrong l = rw (eq-eqb n must fits, ← found, le-ltb place bound l)
 
 -- the forms that are noted are those of the cells
 pub noted-forms : {s entries : List ℕ} {fs : List CellForm} {count : ℕ} → length fs ≡ count

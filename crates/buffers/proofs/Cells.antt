@@ -13,7 +13,7 @@ use Rattle.sheet.specs.Expressions.{CellForm, fbyCell}
 use Rattle.sheet.specs.Memory.{startsEmpty, typeByte, formByte, validCell, invalidAt}
 use Rattle.sheet.specs.Rows.{wrongAt}
 use Rattle.sheet_expressions.specs.Map.{formIn}
-use Rattle.given.specs.Answers.{Formed}
+use Rattle.buffers.specs.Tests.{Formed}
 use Rattle.sheet.specs.declared.Cell.{Cell}
 use Rattle.sheet.specs.declared.Cell.the-variants.{NotStarted, Started}
 

@@ -9,10 +9,10 @@ use borrow.Author.Needs.{needs}
 use Rattle.sheet.specs.Expressions.{CellForm}
 use Rattle.sheet.specs.Memory.{invalidAt}
 use Rattle.sheet.specs.Laws.Lowest.{lowest-is}
-use Rattle.given.specs.Answers.{Formed}
-use Rattle.given.proofs.Cells.{cell-test}
-use Rattle.given.proofs.first_invalid.Statement.{statement}
-use Rattle.given.proofs.first_invalid.Tie as tie
+use Rattle.buffers.specs.Tests.{Formed}
+use Rattle.buffers.proofs.Cells.{cell-test}
+use Rattle.buffers.proofs.first_invalid.Statement.{statement}
+use Rattle.buffers.proofs.first_invalid.Tie as tie
 
 abbrev Inv-loop : tie.InvT-loop
 Inv-loop forms cells memory k₀ k =

@@ -10,9 +10,9 @@ use borrow.Author.Needs.{needs}
 use Rattle.sheet.specs.Data.{typeOfByte}
 use Rattle.sheet.specs.Rows.{wrongAt}
 use Rattle.sheet.specs.Laws.Lowest.{lowest-is}
-use Rattle.given.proofs.Cells.{entry-test}
-use Rattle.given.proofs.first_wrong.Statement.{statement}
-use Rattle.given.proofs.first_wrong.Tie as tie
+use Rattle.buffers.proofs.Cells.{entry-test}
+use Rattle.buffers.proofs.first_wrong.Statement.{statement}
+use Rattle.buffers.proofs.first_wrong.Tie as tie
 
 abbrev Inv-loop : tie.InvT-loop
 Inv-loop types input i₀ i = (i ≤ length types) × ((j : ℕ) → j < i → wrongAt (map typeOfByte types) input j ≡ false)

@@ -8,10 +8,10 @@ use borrow.Author.Needs.{needs}
 use Rattle.sheet.specs.Expressions.{CellForm}
 use Rattle.sheet.specs.Outcomes.{lowest}
 use Rattle.sheet.specs.Memory.{invalidAt, memoryOf}
-use Rattle.given.specs.Answers.{Formed}
-use Rattle.given.proofs.Tests.{length-off, place-wrong, none-wrong}
-use Rattle.given.proofs.check_memory.Statement.{statement}
-use Rattle.given.proofs.check_memory.Tie as tie
+use Rattle.buffers.specs.Tests.{Formed}
+use Rattle.buffers.proofs.Tests.{length-off, place-wrong, none-wrong}
+use Rattle.buffers.proofs.check_memory.Statement.{statement}
+use Rattle.buffers.proofs.check_memory.Tie as tie
 
 mul-if1 : tie.Need-mul-if1
 mul-if1 c = omega (arith, c .before .pre)

@@ -3,8 +3,8 @@ use mathlib.Core.Path.{sym, _∙_}
 use native.Mathlib.Omega.{arith}
 use borrow.Author.Tests.{eq-eqb, ne-eqb}
 use borrow.Author.Needs.{needs}
-use Rattle.given.proofs.check_buffers.Statement.{statement}
-use Rattle.given.proofs.check_buffers.Tie as tie
+use Rattle.buffers.proofs.check_buffers.Statement.{statement}
+use Rattle.buffers.proofs.check_buffers.Tie as tie
 
 check-memory-requires : tie.Need-check-memory-requires
 check-memory-requires c κs = search needs

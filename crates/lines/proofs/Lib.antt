@@ -1,3 +1,2 @@
--- The laws that the proofs of several functions cite.
-pub mod Putting
-pub mod Spelling
+-- The law that the proofs of all functions cite.
+pub mod Holding

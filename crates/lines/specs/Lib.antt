@@ -1,5 +1,3 @@
-pub mod Digits
 pub mod Lines
 pub mod Buffers
-pub mod Laws
 pub mod Cases

@@ -2,23 +2,12 @@
 use Prim.Native.Nat.{ℕ}
 use mathlib.Core.List.{List, [], _∷_, _++_}
 use lib.IntN.{ℤ}
-use mir.Syntax.{w32}
-use mir.Val.{toZ}
-use Rattle.numbers.specs.Words.{wordAt}
-use Rattle.lines.specs.Digits.{digits, decimal}
+use Rattle.text.specs.Digits.{digits}
+use Rattle.text.specs.Pieces.{spaced, spacedAll}
 
 -- the end of a line
 abbrev pub newline : List ℕ
 newline = 10 ∷ []
-
--- a number after a space
-unfoldable pub spaced : ℕ → List ℕ
-spaced n = 32 ∷ digits n
-
--- each signed number after a space
-unfoldable pub spacedAll : List ℤ → List ℕ
-spacedAll [] = []
-spacedAll (z ∷ zs) = 32 ∷ decimal z ++ spacedAll zs
 
 -- `short`
 unfoldable pub shortLine : List ℕ
@@ -40,11 +29,3 @@ leftLine left = (108 ∷ 101 ∷ 102 ∷ 116 ∷ []) ++ spaced left ++ newline
 -- a row: the instant's number, then the outputs
 unfoldable pub rowLine : ℕ → List ℤ → List ℕ
 rowLine instant outputs = digits instant ++ spacedAll outputs ++ newline
-
--- the numbers of an output row as the library writes it: four bytes for each, lowest first, in two's complement; fewer bytes are none
-unfoldable pub numbersOf : List ℕ → List ℤ
-numbersOf [] = []
-numbersOf (_ ∷ []) = []
-numbersOf (_ ∷ _ ∷ []) = []
-numbersOf (_ ∷ _ ∷ _ ∷ []) = []
-numbersOf (a ∷ b ∷ c ∷ d ∷ rest) = toZ w32 (wordAt (a ∷ b ∷ c ∷ d ∷ []) 0) ∷ numbersOf rest

@@ -1,7 +1,4 @@
-// The lines that the player prints, as bytes in a lent buffer.
-
-pub mod text;
-
+// The lines that the player prints, as bytes in a lent buffer. Rests on `text` for their pieces.
 use text::put_byte;
 use text::put_bytes;
 use text::put_digits;
@@ -9,8 +6,9 @@ use text::put_numbers;
 use text::put_spaced;
 ghost use Prim.Native.Nat.{_≤_};
 ghost use lib.ListN.{length};
+ghost use Rattle.text.specs.Pieces.{numbersOf};
 ghost use Rattle.lines.specs.Buffers.{Holds};
-ghost use Rattle.lines.specs.Lines.{shortLine, refusedLine, sheetLine, leftLine, rowLine, numbersOf};
+ghost use Rattle.lines.specs.Lines.{shortLine, refusedLine, sheetLine, leftLine, rowLine};
 
 // The line of an input whose length bytes or sheet are incomplete.
 pub fn short_line(buffer: &mut [u8]) -> usize

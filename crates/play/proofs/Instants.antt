@@ -13,7 +13,8 @@ use Rattle.kernel.specs.declared.InRounds.{InRounds}
 use Rattle.kernel.specs.declared.InRounds.the-variants.{Refused, Accepted}
 use Rattle.instant.specs.Leaves.{Leaves}
 use Rattle.lines.specs.Buffers.{Holds}
-use Rattle.lines.specs.Lines.{refusedLine, leftLine, rowLine, numbersOf}
+use Rattle.text.specs.Pieces.{numbersOf}
+use Rattle.lines.specs.Lines.{refusedLine, leftLine, rowLine}
 use Rattle.play.specs.Text.{lengthAt, sheetIn, zeros, instantOf, instantText, instantsText}
 use Rattle.play.specs.Stages.{nextInstant, linesLeft, Ready, Gives}
 use Rattle.play.specs.declared.Progress.{Progress}

@@ -19,7 +19,8 @@ use Rattle.kernel.specs.Instant.{value, kept, stored}
 use Rattle.kernel.specs.Systems as System
 use Rattle.kernel.specs.Instants.{valueOfWire, values, storedCells, round, rounds, finished, nextMemory, outputRow}
 use Rattle.kernel.specs.Calls.{givenOf, placeOfUnknown, acceptedOf, inRounds, roundsCall}
-use Rattle.lines.specs.Lines.{shortLine, refusedLine, sheetLine, leftLine, rowLine, numbersOf}
+use Rattle.text.specs.Pieces.{numbersOf}
+use Rattle.lines.specs.Lines.{shortLine, refusedLine, sheetLine, leftLine, rowLine}
 use Rattle.play.specs.Text.{played, instantsText, bytesText, playText}
 
 -- an input row of two entries

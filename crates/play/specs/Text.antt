@@ -13,7 +13,8 @@ use Rattle.sheet.specs.declared.Checked.the-variants.{Refused, Passed}
 use Rattle.kernel.specs.Calls.{InstantCall, roundsCall}
 use Rattle.kernel.specs.declared.InRounds.{InRounds}
 use Rattle.kernel.specs.declared.InRounds.the-variants.{Refused as RefusedInRounds, Accepted}
-use Rattle.lines.specs.Lines.{shortLine, refusedLine, sheetLine, leftLine, rowLine, numbersOf}
+use Rattle.text.specs.Pieces.{numbersOf}
+use Rattle.lines.specs.Lines.{shortLine, refusedLine, sheetLine, leftLine, rowLine}
 
 -- the first 65,536 bytes of the input; those behind them do not exist
 unfoldable pub played : List ℕ → List ℕ

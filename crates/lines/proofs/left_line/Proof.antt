@@ -2,7 +2,8 @@
 use native.Mathlib.Omega.{arith}
 use borrow.Author.Needs.{needs}
 use Rattle.lines.specs.Lines.{leftLine}
-use Rattle.lines.proofs.Putting.{then, held}
+use Rattle.text.proofs.Putting.{then}
+use Rattle.lines.proofs.Holding.{held}
 use Rattle.lines.proofs.left_line.Statement.{statement}
 use Rattle.lines.proofs.left_line.Tie as tie
 

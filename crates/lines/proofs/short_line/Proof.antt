@@ -2,7 +2,7 @@
 use native.Mathlib.Omega.{arith}
 use borrow.Author.Needs.{needs}
 use Rattle.lines.specs.Lines.{shortLine}
-use Rattle.lines.proofs.Putting.{held}
+use Rattle.lines.proofs.Holding.{held}
 use Rattle.lines.proofs.short_line.Statement.{statement}
 use Rattle.lines.proofs.short_line.Tie as tie
 

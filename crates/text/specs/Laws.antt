@@ -7,7 +7,7 @@ use native.Mathlib.Omega.{arith}
 use lib.Dec.{ltb}
 use lib.ListN.{length, length-append}
 use borrow.Author.Tests.{ltb-true, ltb-false, lt-ltb, le-ltb}
-use Rattle.lines.specs.Digits.{spelled, digits}
+use Rattle.text.specs.Digits.{spelled, digits}
 
 -- a number below ten is one digit
 pub digits-one : (n : ℕ) → n < 10 → digits n ≡ (48 + n) ∷ []

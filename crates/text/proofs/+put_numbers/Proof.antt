@@ -11,14 +11,14 @@ use borrow.Fn.Kinds.{In}
 use borrow.Fn.PlainCycle.{Measures, is, falls, and}
 use Rattle.numbers.proofs.of_bits.Reads as of-bits-reads
 use Rattle.numbers.proofs.word_at.Reads as word-at-reads
-use Rattle.lines.proofs.Spelling.{none-left, row}
-use Rattle.lines.proofs.text.put_numbers.Reads as put-numbers
-use Rattle.lines.proofs.text.put_numbers.Kinds as put-numbers-kinds
-use Rattle.lines.proofs.text.+put_numbers.Lts-put_numbers as put-numbers-lts
-use Rattle.lines.proofs.text.put_byte.Reads as put-byte-reads
-use Rattle.lines.proofs.text.put_number.Reads as put-number-reads
-use Rattle.lines.proofs.text.+put_numbers.{statement}
-use Rattle.lines.proofs.text.+put_numbers.Tie.{close}
+use Rattle.text.proofs.Spelling.{none-left, row}
+use Rattle.text.proofs.put_numbers.Reads as put-numbers
+use Rattle.text.proofs.put_numbers.Kinds as put-numbers-kinds
+use Rattle.text.proofs.+put_numbers.Lts-put_numbers as put-numbers-lts
+use Rattle.text.proofs.put_byte.Reads as put-byte-reads
+use Rattle.text.proofs.put_number.Reads as put-number-reads
+use Rattle.text.proofs.+put_numbers.{statement}
+use Rattle.text.proofs.+put_numbers.Tie.{close}
 
 abbrev μ-put-numbers : Measures 2 put-numbers-kinds.ps ℕ
 μ-put-numbers κs a = length (a .1 .1 .0 .now)

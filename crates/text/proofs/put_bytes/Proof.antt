@@ -5,9 +5,9 @@ use native.Mathlib.Omega.{arith}
 use lib.ListN.{length, take, length-set}
 use lib.Seq.{sets}
 use borrow.Author.Needs.{needs}
-use Rattle.lines.proofs.Putting.{more, all}
-use Rattle.lines.proofs.text.put_bytes.Statement.{statement}
-use Rattle.lines.proofs.text.put_bytes.Tie as tie
+use Rattle.text.proofs.Putting.{more, all}
+use Rattle.text.proofs.put_bytes.Statement.{statement}
+use Rattle.text.proofs.put_bytes.Tie as tie
 
 abbrev Inv-loop : tie.InvT-loop
 Inv-loop buffer₀ at text i₀ buffer i = (i ≤ length text) × (length buffer ≡ length buffer₀) × (buffer ≡ sets buffer₀ at (take i text))

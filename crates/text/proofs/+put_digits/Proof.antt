@@ -5,14 +5,14 @@ use native.Mathlib.Omega.{arith}
 use borrow.Author.Needs.{needs}
 use borrow.Fn.Kinds.{In}
 use borrow.Fn.PlainCycle.{Measures, is, falls, and}
-use Rattle.lines.specs.Laws.{digits-below}
-use Rattle.lines.proofs.Spelling.{only, last}
-use Rattle.lines.proofs.text.put_digits.Reads as put-digits
-use Rattle.lines.proofs.text.put_digits.Kinds as put-digits-kinds
-use Rattle.lines.proofs.text.+put_digits.Lts-put_digits as put-digits-lts
-use Rattle.lines.proofs.text.put_byte.Reads as put-byte-reads
-use Rattle.lines.proofs.text.+put_digits.{statement}
-use Rattle.lines.proofs.text.+put_digits.Tie.{close}
+use Rattle.text.specs.Laws.{digits-below}
+use Rattle.text.proofs.Spelling.{only, last}
+use Rattle.text.proofs.put_digits.Reads as put-digits
+use Rattle.text.proofs.put_digits.Kinds as put-digits-kinds
+use Rattle.text.proofs.+put_digits.Lts-put_digits as put-digits-lts
+use Rattle.text.proofs.put_byte.Reads as put-byte-reads
+use Rattle.text.proofs.+put_digits.{statement}
+use Rattle.text.proofs.+put_digits.Tie.{close}
 
 abbrev μ-put-digits : Measures 1 put-digits-kinds.ps ℕ
 μ-put-digits κs a = a .1 .1 .0

@@ -1,11 +1,11 @@
 // Pieces of text, put one after another into a lent buffer: each function returns the place past what it put.
-
+// Rests on `numbers` for the numbers of an output row.
 ghost use Prim.Native.Nat.{_+_, _*_, _≤_};
 ghost use mathlib.Core.List.{[], _∷_};
 ghost use lib.ListN.{length};
-ghost use Rattle.lines.specs.Buffers.{Puts};
-ghost use Rattle.lines.specs.Digits.{digits, decimal};
-ghost use Rattle.lines.specs.Lines.{spaced, spacedAll, numbersOf};
+ghost use Rattle.text.specs.Buffers.{Puts};
+ghost use Rattle.text.specs.Digits.{digits, decimal};
+ghost use Rattle.text.specs.Pieces.{spaced, spacedAll, numbersOf};
 
 // Puts bytes as they are.
 pub fn put_bytes(buffer: &mut [u8], at: usize, text: &[u8]) -> usize

@@ -2,10 +2,10 @@
 use native.Mathlib.Omega.{arith}
 use borrow.Author.Needs.{needs}
 use Rattle.numbers.proofs.Bits.{turned, upward, cast-ok, cast-is}
-use Rattle.lines.proofs.Putting.{then}
-use Rattle.lines.proofs.Spelling.{below, above}
-use Rattle.lines.proofs.text.put_number.Statement.{statement}
-use Rattle.lines.proofs.text.put_number.Tie as tie
+use Rattle.text.proofs.Putting.{then}
+use Rattle.text.proofs.Spelling.{below, above}
+use Rattle.text.proofs.put_number.Statement.{statement}
+use Rattle.text.proofs.put_number.Tie as tie
 
 put-byte-requires : tie.Need-put-byte-requires
 put-byte-requires c κs = search needs

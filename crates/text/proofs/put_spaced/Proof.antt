@@ -1,10 +1,10 @@
 -- `put_spaced` puts a space and then the digits.
 use native.Mathlib.Omega.{arith}
 use borrow.Author.Needs.{needs}
-use Rattle.lines.specs.Lines.{spaced}
-use Rattle.lines.proofs.Putting.{then}
-use Rattle.lines.proofs.text.put_spaced.Statement.{statement}
-use Rattle.lines.proofs.text.put_spaced.Tie as tie
+use Rattle.text.specs.Pieces.{spaced}
+use Rattle.text.proofs.Putting.{then}
+use Rattle.text.proofs.put_spaced.Statement.{statement}
+use Rattle.text.proofs.put_spaced.Tie as tie
 
 put-byte-requires : tie.Need-put-byte-requires
 put-byte-requires c κs = search needs

@@ -1,13 +1,13 @@
--- Pieces put one after another are one piece, and what is put at the start of a buffer is the line that it holds.
+-- Pieces put one after another are one piece.
 use Prim.Native.Nat.{ℕ, _+_, _≤_, _<_}
-use mathlib.Core.Path.{_≡_, ap, sym, _∙_}
+use mathlib.Core.Path.{_≡_, sym, _∙_}
 use mathlib.Core.List.{List, [], _∷_, _++_}
 use native.Mathlib.Omega.{arith}
 use native.Mathlib.Numerals.{add-one}
-use lib.ListN.{length, take, drop, getD, set, length-append}
-use lib.Seq.{sets, sets-eq, length-sets, take-suc, take-all, take-at, drop-at, length-take-le}
+use lib.ListN.{length, take, getD, set, length-append}
+use lib.Seq.{sets, take-suc, take-all, length-take-le}
 use Rattle.numbers.specs.Laws.{sets-append}
-use Rattle.lines.specs.Buffers.{Puts, Holds}
+use Rattle.text.specs.Buffers.{Puts}
 
 -- one piece, then another at the place past it
 pub then : {before middle after x y : List ℕ} {at next past : ℕ}
@@ -26,14 +26,3 @@ more l at text after i h e =
 pub all : (l : List ℕ) (at : ℕ) (text after : List ℕ) (i : ℕ) → length text ≤ i → i ≤ length text → after ≡ sets l at (take i text)
     → Puts l at text after (at + i)
 all l at text after i g h e = record { placed = rw (take-all i text g) at e; passed = omega arith }
-
--- a line put at the start of a buffer that has room for it
-pub held : {before line after : List ℕ} {size : ℕ} → Puts before 0 line after size → size ≤ length before → Holds before line after size
-held {before} {line} {after} {size} p h =
-    let sized : length line ≡ size = omega (arith, p .passed) in
-    let parts : after ≡ line ++ drop (0 + length line) before = p .placed ∙ sets-eq line before 0 (omega arith) in
-    record {
-      held = rw parts (take-at line (drop (0 + length line) before) size sized);
-      behind = rw parts (drop-at line (drop (0 + length line) before) size sized ∙ ap (λ n. drop n before) (sym (p .passed)));
-      within = rw (p .placed, length-sets before 0 line) h;
-    }

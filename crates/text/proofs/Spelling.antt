@@ -14,11 +14,11 @@ use mir.Facts.{toZ-ofZ}
 use borrow.Author.Tests.{ltb-true}
 use Rattle.numbers.proofs.Bits.{turned, upward, cast-is}
 use Rattle.numbers.specs.Words.{wordAt}
-use Rattle.lines.specs.Buffers.{Puts}
-use Rattle.lines.specs.Digits.{digits, decimal}
-use Rattle.lines.specs.Lines.{spacedAll, numbersOf}
-use Rattle.lines.specs.Laws.{digits-one, digits-more, digits-ten}
-use Rattle.lines.proofs.Putting.{then}
+use Rattle.text.specs.Buffers.{Puts}
+use Rattle.text.specs.Digits.{digits, decimal}
+use Rattle.text.specs.Pieces.{spacedAll, numbersOf}
+use Rattle.text.specs.Laws.{digits-one, digits-more, digits-ten}
+use Rattle.text.proofs.Putting.{then}
 
 -- a number below ten
 pub only : {before after : List ℕ} {at past : ℕ} (n : ℕ) → n < 10 → Puts before at ((48 + n) ∷ []) after past

@@ -11,11 +11,9 @@ ghost use Rattle.sheet.specs.Kinds.{digitOf, operandTypeIn};
 // How many kinds there are.
 pub const COUNT: u8 = 18;
 
-// A type is 0 for a Boolean or 1 for a number; or, in the table alone, the type asked, the named wire's or the named input's.
-const ASKED: u8 = 4;
-
 // The columns, each a number with one octal digit to a kind, that of kind 0 last, so that a digit is found by a shift: bytes of
-// body, cells owned, own type, count of operands, and how many of them are read within the instant.
+// body, cells owned, own type, count of operands, and how many of them are read within the instant. A type is 0 for a Boolean or 1 for a
+// number; or 4 for the type asked, 5 for the named wire's, 6 for the named input's.
 const BODIES: u64 = 0o041000000000001141;
 
 const CELLS: u64 = 0o111000000000000000;
@@ -25,6 +23,9 @@ const OWN_TYPES: u64 = 0o410444001100106510;
 const OPERANDS: u64 = 0o211233222222110000;
 
 const READ_OPERANDS: u64 = 0o100233222222110000;
+
+// The types that fit an expression, but that of what it names: 1 where a Boolean does, plus 2 where a number does.
+const FITTING: u64 = 0o321333112211210021;
 
 // The types asked of the operands, where a Boolean is asked of the whole and where a number is: 1 where the first is a number, plus 2
 // where the second is, plus 4 where every later one is.
@@ -64,13 +65,13 @@ pub fn own_type(kind: u8) -> u8
     digit(OWN_TYPES, kind)
 }
 
-// Whether an expression of this kind has the type asked, unless it has that of what it names.
+// Whether an expression of this kind has the type asked, unless it has that of what it names. Looked up, as two tests would be two
+// branches that no machine foresees.
 pub fn fits(kind: u8, asked: u8) -> bool
-    requires { ⌜ kind < kindCount ⌝ }
+    requires { ⌜ (kind < kindCount) × (asked < 2) ⌝ }
     ensures { λ r. ⌜ r ≡ eqb (typed asked (ownTypeOf kind)) asked ⌝ }
 {
-    let code = own_type(kind);
-    (code == asked) | (code == ASKED)
+    (digit(FITTING, kind) >> asked as u32) % 2 == 1
 }
 
 // How many operands follow the body.

@@ -425,7 +425,7 @@ module _ (t : ℕ) where
   node-kind c = c .before .before .before .before .before .pre .1 .1 .byte
 
   node-fits-requires : check-node-lts.Need-fits-requires (check-node-calls t) (check-node-at t) check-node.Post
-  node-fits-requires c κs = c .before .before .before .before .before .before .pre .1 .1 .kind
+  node-fits-requires c κs = let node = c .before .before .before .before .before .before .pre .1 .1 in (node .kind, node .asked)
 
   node-wrong-requires : check-node-lts.Need-refused-requires (check-node-calls t) (check-node-at t) check-node.Post
   node-wrong-requires c κs = search needs

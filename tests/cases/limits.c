@@ -1,21 +1,12 @@
-/* The limits of a sheet, each met and overstepped: wires, levels, cells, bytes, inputs, outputs. Rests on its own sheets. */
+/* The limits of a sheet, each met and overstepped: wires, levels, cells, bytes, inputs, outputs. Rests on the chain of 64 wires and
+ * on sheets of its own.
+ */
+#include "cases/chains.h"
 #include "cases/rows.h"
 
 #define WIRES_64 0, 64, TIMES_64(1), 1, 0, TIMES_64(1, 7, 0, 0, 0)
 #define WIRES_65 0, 65, TIMES_64(1), 1, 1, 0, TIMES_64(1, 7, 0, 0, 0), 1, 7, 0, 0, 0
 
-/* Wire k is wire k + 1, and wire 63 is 5. */
-#define CHAIN_OF_64                                                                              \
-    0, 64, TIMES_64(1), 1, 0, 2, 1, 2, 2, 2, 3, 2, 4, 2, 5, 2, 6, 2, 7, 2, 8, 2, 9, 2, 10, 2,    \
-        11, 2, 12, 2, 13, 2, 14, 2, 15, 2, 16, 2, 17, 2, 18, 2, 19, 2, 20, 2, 21, 2, 22, 2, 23,  \
-        2, 24, 2, 25, 2, 26, 2, 27, 2, 28, 2, 29, 2, 30, 2, 31, 2, 32, 2, 33, 2, 34, 2, 35, 2,   \
-        36, 2, 37, 2, 38, 2, 39, 2, 40, 2, 41, 2, 42, 2, 43, 2, 44, 2, 45, 2, 46, 2, 47, 2, 48,  \
-        2, 49, 2, 50, 2, 51, 2, 52, 2, 53, 2, 54, 2, 55, 2, 56, 2, 57, 2, 58, 2, 59, 2, 60, 2,   \
-        61, 2, 62, 2, 63, 1, 5, 0, 0, 0
-#define DOWN_FROM_63                                                                            \
-    63, 62, 61, 60, 59, 58, 57, 56, 55, 54, 53, 52, 51, 50, 49, 48, 47, 46, 45, 44, 43, 42, 41, \
-        40, 39, 38, 37, 36, 35, 34, 33, 32, 31, 30, 29, 28, 27, 26, 25, 24, 23, 22, 21, 20, 19, \
-        18, 17, 16, 15, 14, 13, 12, 11, 10, 9, 8, 7, 6, 5, 4, 3, 2, 1, 0
 #define DOWN_FROM_63_WITH_ENDS_CHANGED                                                         \
     63, 62, 61, 60, 59, 58, 57, 56, 55, 54, 53, 52, 51, 50, 49, 48, 47, 46, 45, 44, 43, 42, 41, \
         40, 39, 38, 37, 36, 35, 34, 33, 32, 31, 30, 29, 28, 27, 26, 25, 24, 23, 22, 21, 20, 19, \

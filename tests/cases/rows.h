@@ -25,6 +25,7 @@ struct row {
     uint32_t answer;
     struct bytes memory_after;
     struct bytes output_after;
+    struct bytes schedule_after;
 };
 
 struct table {

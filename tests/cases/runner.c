@@ -56,7 +56,9 @@ static const uint8_t *expected_by(const struct row *row, enum call call, enum ro
 {
     if (row->refused != 0 || (rules_of[call].writes >> role & 1) == 0)
         return given_by(row, role).start;
-    return role == role_memory ? row->memory_after.start : row->output_after.start;
+    if (role == role_memory)
+        return row->memory_after.start;
+    return role == role_output ? row->output_after.start : row->schedule_after.start;
 }
 
 static bool all_hold(const struct row *row, enum call call, const struct guarded *buffers)
@@ -92,9 +94,9 @@ void run_table(const struct table *table, struct tally *tally)
 {
     for (size_t index = 0; index < table->count; index++) {
         const struct row *const row = &table->rows[index];
-        /* A sheet that the check refuses is refused alike by the other three. */
+        /* A sheet that the check refuses is refused alike by all the others. */
         const bool by_all = row->call == call_check && row->refused != 0;
-        const unsigned last = by_all ? call_scheduled : row->call;
+        const unsigned last = by_all ? calls - 1 : row->call;
         for (unsigned call = row->call; call <= last; call++) {
             if (passes(row, call))
                 tally->passed++;

@@ -5,7 +5,7 @@
 /* A length that would pass if only its lower sixteen bits were looked at. */
 static const uint8_t too_long_sheet[sixteen_bits + 40] = {SHEET_A};
 
-/* The runner tries a refused check on all four calls. */
+/* The runner tries a refused check on all calls. */
 static const struct row rows[] = {
     {.name = "1: empty", .sheet = {too_long_sheet, 0}, .refused = 1, .place = 0},
     {.name = "1: sixteen bits too long", .sheet = {too_long_sheet, sixteen_bits + 40},

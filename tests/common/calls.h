@@ -8,15 +8,15 @@
 #include <stddef.h>
 #include <stdint.h>
 
-enum call { call_check, call_start, call_rounds, call_scheduled, calls };
+enum call { call_check, call_start, call_rounds, call_scheduled, call_make, calls };
 
 enum role { role_sheet, role_memory, role_input, role_output, role_schedule, roles };
 
 static const char *const role_names[roles] = {"sheet", "memory", "input", "output", "schedule"};
 
-enum { refusals = 20, first_refusal = 65536 };
+enum { refusals = 21, first_refusal = 65536 };
 
-/* The refusals that document 01 gives to a call, and the buffers that it may write where it is accepted: one bit for each. */
+/* The refusals that documents 01 and 02 give to a call, and the buffers that it may write where it is accepted: one bit for each. */
 struct call_rules {
     const char *name;
     uint32_t refusals;
@@ -26,15 +26,18 @@ struct call_rules {
 #define REFUSALS_FROM_TO(first, last) ((UINT32_C(2) << (last)) - (UINT32_C(1) << (first)))
 #define WRITES_MEMORY (UINT32_C(1) << role_memory)
 #define WRITES_MEMORY_AND_OUTPUT (WRITES_MEMORY | UINT32_C(1) << role_output)
+#define WRITES_SCHEDULE (UINT32_C(1) << role_schedule)
 
 static const struct call_rules rules_of[calls] = {
     [call_check] = {"check", REFUSALS_FROM_TO(1, 11), 0},
     [call_start] = {"start", REFUSALS_FROM_TO(1, 12), WRITES_MEMORY},
     [call_rounds] = {"rounds", REFUSALS_FROM_TO(1, 16) | REFUSALS_FROM_TO(20, 20), WRITES_MEMORY_AND_OUTPUT},
     [call_scheduled] = {"scheduled", REFUSALS_FROM_TO(1, 19), WRITES_MEMORY_AND_OUTPUT},
+    [call_make] = {"make", REFUSALS_FROM_TO(1, 11) | REFUSALS_FROM_TO(17, 17) | REFUSALS_FROM_TO(21, 21), WRITES_SCHEDULE},
 };
 
-/* What a call is given; the check takes the sheet alone, the start sheet and memory, and the rounds all but the schedule. */
+/* What a call is given; the check takes the sheet alone, the start sheet and memory, the rounds all but the schedule, and the maker
+ * sheet and schedule. */
 struct arguments {
     struct {
         uint8_t *bytes;
@@ -48,6 +51,7 @@ struct implementation {
     uint32_t (*rounds)(const uint8_t *, size_t, uint8_t *, size_t, const uint8_t *, size_t, uint8_t *, size_t);
     uint32_t (*scheduled)(const uint8_t *, size_t, uint8_t *, size_t, const uint8_t *, size_t, uint8_t *, size_t, const uint8_t *,
                           size_t);
+    uint32_t (*make)(const uint8_t *, size_t, uint8_t *, size_t);
 };
 
 /* An argument as the calls have it: a pointer and a length. */
@@ -62,9 +66,11 @@ static inline uint32_t run(const struct implementation *implementation, enum cal
         return implementation->start(ARGUMENT(role_sheet), ARGUMENT(role_memory));
     case call_rounds:
         return implementation->rounds(ARGUMENT(role_sheet), ARGUMENT(role_memory), ARGUMENT(role_input), ARGUMENT(role_output));
-    default:
+    case call_scheduled:
         return implementation->scheduled(ARGUMENT(role_sheet), ARGUMENT(role_memory), ARGUMENT(role_input), ARGUMENT(role_output),
                                          ARGUMENT(role_schedule));
+    default:
+        return implementation->make(ARGUMENT(role_sheet), ARGUMENT(role_schedule));
     }
 }
 

@@ -37,4 +37,15 @@ step compare_refused_sheet;
 /* instants.c: the start, and instants both ways from memory to memory, with demand 3 between them. */
 step compare_instants;
 
+/* maker.c: a schedule is asked for, also of a refused sheet, and must be there by what is known of the reads; an instant goes along it. */
+step compare_maker;
+
+/* ---- instants.c, for other steps too ---- */
+
+/* Leaves the starting memory in "given". */
+void compare_start(struct harness *harness, struct workspace *workspace);
+
+/* Both instants from the memory, input row and list in "given". Answers whether the rounds are accepted. */
+bool compare_instant(struct harness *harness, struct workspace *workspace, bool list_passes);
+
 #endif

@@ -22,8 +22,7 @@ static uint32_t compare_rounds(struct harness *harness, struct workspace *worksp
     return rounds;
 }
 
-/* Both instants from the same memory and input row. Answers whether the rounds are accepted. */
-static bool compare_instant(struct harness *harness, struct workspace *workspace, bool list_passes)
+bool compare_instant(struct harness *harness, struct workspace *workspace, bool list_passes)
 {
     struct buffers *const given = &workspace->given;
     const struct buffers *const by_rounds = &workspace->by_rounds;
@@ -66,8 +65,7 @@ static bool prepare_instant(struct harness *harness, const struct subject *subje
     return list_passes;
 }
 
-/* Leaves the starting memory in "given". */
-static void compare_start(struct harness *harness, struct workspace *workspace)
+void compare_start(struct harness *harness, struct workspace *workspace)
 {
     struct random *const random = &harness->random;
     struct buffers *const given = &workspace->given;

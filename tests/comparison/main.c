@@ -1,5 +1,5 @@
 /* Compares the library with the evaluator on random and damaged sheets, memories, rows and schedules: the same answer and the same
- * bytes in every buffer, and demand 3 directly. Rests on the generator, the harness and the steps.
+ * bytes in every buffer, and directly demand 3 and what a made schedule is. Rests on the generator, the harness and the steps.
  *
  * Usage: compare [CASES] [SEED]
  */
@@ -15,7 +15,7 @@
 
 /* What is tried of each sheet once its check was compared, in this order: a step put at the end leaves the cases of those before it
  * as they are. */
-static step *const steps[] = {compare_refused_sheet, compare_instants};
+static step *const steps[] = {compare_refused_sheet, compare_instants, compare_maker};
 
 /* Answers whether the sheet has to pass the check. */
 static bool make_sheet(struct harness *harness, struct workspace *workspace)

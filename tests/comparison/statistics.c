@@ -10,6 +10,13 @@ static const char *const counter_texts[counters] = {
     [counter_instants_both_ways] = "instants the same both ways",
     [counter_instants_without_schedule] = "instants accepted in rounds that have no schedule",
     [counter_most_rounds] = "most rounds",
+    [counter_instants_along_made_list] = "instants along a made list",
+    [counter_lower_wires_refused] = "lower wires of made lists brought forward and refused",
+    [counter_loops_of_one] = "no list, the place a wire that reads itself",
+    [counter_loops_of_two] = "no list, the place on a loop of two wires",
+    [counter_loops_of_more] = "no list, the place on a longer loop",
+    [counter_longest_loop] = "longest such loop",
+    [counter_waiting_below_loop] = "no list, a wire below the place waits for a loop",
 };
 
 static void print_answers(const struct statistics *statistics)
@@ -49,7 +56,9 @@ bool print_statistics(const struct statistics *statistics)
         all_met = all_refusals_met(statistics, call) && all_met;
     printf("instants accepted: %lu in rounds, %lu along a schedule\n", statistics->met[call_rounds][0],
            statistics->met[call_scheduled][0]);
-    for (unsigned counter = 0; counter < counters; counter++)
+    for (unsigned counter = 0; counter < counters; counter++) {
         printf("%s: %lu\n", counter_texts[counter], statistics->count[counter]);
+        all_met = all_met && statistics->count[counter] != 0;
+    }
     return all_met;
 }

@@ -11,6 +11,13 @@ enum counter {
     counter_instants_both_ways,
     counter_instants_without_schedule,
     counter_most_rounds,
+    counter_instants_along_made_list,
+    counter_lower_wires_refused,
+    counter_loops_of_one,
+    counter_loops_of_two,
+    counter_loops_of_more,
+    counter_longest_loop,
+    counter_waiting_below_loop,
     counters
 };
 
@@ -19,7 +26,7 @@ struct statistics {
     unsigned long count[counters];
 };
 
-/* Answers whether every refusal was met by every call that uses it. */
+/* Answers whether every refusal was met by every call that uses it, and no count stayed at 0. */
 bool print_statistics(const struct statistics *statistics);
 
 #endif

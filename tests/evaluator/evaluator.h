@@ -1,5 +1,6 @@
-/* The calls of the meter sheet library as the evaluator has them: written separately in plain C from the rules of document 01, to be
- * compared with the proved library and to be one yardstick of its benchmark. Rests on nothing but the C language.
+/* The calls of the meter sheet library as the evaluator has them: written separately in plain C from the rules of document 01 and the
+ * requests of document 02, to be compared with the proved library and to be one yardstick of its benchmark. Rests on nothing but the C
+ * language.
  *
  * Each call answers one number: a refusal is its number times 65536 plus its place. After a refusal every buffer holds what it held
  * before. The buffers of one call must not overlap.
@@ -24,5 +25,8 @@ uint32_t evaluator_rounds(const uint8_t *sheet, size_t sheet_length, uint8_t *me
 uint32_t evaluator_scheduled(const uint8_t *sheet, size_t sheet_length, uint8_t *memory, size_t memory_length,
                              const uint8_t *input, size_t input_length, uint8_t *output, size_t output_length,
                              const uint8_t *schedule, size_t schedule_length);
+
+/* Refusals 1 to 11, 17 and 21. Success answers 0 and fills the list. */
+uint32_t evaluator_schedule(const uint8_t *sheet, size_t sheet_length, uint8_t *list, size_t list_length);
 
 #endif

@@ -10,13 +10,12 @@ use lib.Seq.{getD-take}
 use Rattle.sheet.specs.Data.{boolean, typeOfByte}
 use Rattle.sheet.specs.Expressions.{CellForm, fbyCell}
 use Rattle.sheet.specs.Outcomes.{Outcome, refusal, result, followedBy}
-use Rattle.sheet.specs.Readings.{Reading, refused, got}
-use Rattle.sheet.specs.Sheets.{Sheet, sheetForms, before, readSheet, sheetOf, checkedOf, checkOf}
+use Rattle.sheet.specs.Sheets.{Sheet, sheetForms, before, sheetOf, checkOf}
 use Rattle.sheet.specs.Memory.{formByte, memoryOf}
 use Rattle.sheet.specs.Typing.{Pairwise, done, _then_}
 use Rattle.sheet.specs.Rows.{inputsOf}
-use Rattle.sheet.specs.Laws.Headers.{SheetRead, section-good, section-length, sheet-view}
-use Rattle.sheet.specs.Laws.Typing.{read-passed, read-counted}
+use Rattle.sheet.specs.Laws.Checked.{check-refused, CheckPassed as Checked, check-passed}
+use Rattle.sheet.specs.Laws.Headers.{section-good, section-length}
 use Rattle.sheet.specs.declared.Datum.{Datum}
 use Rattle.sheet.specs.declared.Cell.{Cell}
 use Rattle.sheet.specs.declared.Refusal.{Refusal}
@@ -45,67 +44,39 @@ noted-forms {s} {entries} {fs} {count} sized noted =
 
 -- what a sheet that passes the check with these counts has
 pub record Passes (s : List ℕ) (inputs wires outputs cells : ℕ) : Type 0 where
-  pub sheet : Sheet
-  pub outcome : sheetOf s ≡ result sheet
+  pub checked : Checked s inputs wires outputs cells
   pub within : 1 + inputs ≤ length s
-  pub types : map typeOfByte (take inputs (drop 1 s)) ≡ sheet .inputTypes
-  pub few-inputs : inputs ≤ 16
-  pub few-outputs : outputs ≤ 16
-  pub few-cells : cells ≤ 64
-  pub inputs-are : length (sheet .inputTypes) ≡ inputs
-  pub wires-are : length (sheet .wireTypes) ≡ wires
-  pub outputs-are : length (sheet .outputs) ≡ outputs
-  pub cells-are : length (sheetForms sheet) ≡ cells
-  pub end : ℕ
-  pub view : SheetRead s sheet end cells
+  pub types : map typeOfByte (take inputs (drop 1 s)) ≡ checked .sheet .inputTypes
 
 -- the tests by these counts are those of the sheet
 pub own-tests : {s : List ℕ} {i w o k : ℕ} (p : Passes s i w o k) (memory input output : List ℕ)
-    → buffersTested (sheetForms (p .sheet)) (map typeOfByte (take (1 + i - 1) (drop 1 s))) o memory input output
-    ≡ buffersTested (sheetForms (p .sheet)) (p .sheet .inputTypes) (length (p .sheet .outputs)) memory input output
-own-tests {i = i} p memory input output = let e : 1 + i - 1 ≡ i = omega arith in rw (e, p .types, p .outputs-are)
+    → let sheet = p .checked .sheet in
+    buffersTested (sheetForms sheet) (map typeOfByte (take (1 + i - 1) (drop 1 s))) o memory input output
+    ≡ buffersTested (sheetForms sheet) (sheet .inputTypes) (length (sheet .outputs)) memory input output
+own-tests {i = i} p memory input output = let e : 1 + i - 1 ≡ i = omega arith in rw (e, p .types, p .checked .outputs-are)
 
 -- and so are the counts
 abbrev countsOf : Sheet → Answer
 countsOf sheet = Passed (length (sheet .inputTypes)) (length (sheet .wireTypes)) (length (sheet .outputs)) (length (sheetForms sheet))
 
-pub own-counts : {s : List ℕ} {i w o k : ℕ} (p : Passes s i w o k) → Passed i w o k ≡ countsOf (p .sheet)
+pub own-counts : {s : List ℕ} {i w o k : ℕ} (p : Checked s i w o k) → Passed i w o k ≡ countsOf (p .sheet)
 own-counts p = rw (p .inputs-are, p .wires-are, p .outputs-are, p .cells-are)
 
 pub passes : (s : List ℕ) (i w o k : ℕ) → checkOf s ≡ CheckPassed i w o k → Passes s i w o k
-unfolding sheetOf
-passes s i w o k e = go (readSheet s) refl e
-  where
-    go : (x : Reading Sheet) → readSheet s ≡ x → checkedOf x ≡ CheckPassed i w o k → Passes s i w o k
-    go (refused why place) q h = absurd (let z : _≡_ {A = ℕ} 0 1 = cc in omega arith)
-    go (got sheet n j) q h =
-        let v = sheet-view s q in
-        let p = read-passed s q in
-        let g = section-good s 0 0 17 2 false TypeByte (v .inputs) in
-        let ins : length (sheet .inputTypes) ≡ i = cc in
-        let ws : length (sheet .wireTypes) ≡ w = cc in
-        let outs : length (sheet .outputs) ≡ o = cc in
-        let count : j ≡ k = cc in
-        let inputs : v .inputCount ≡ i =
-        sym (section-length g) ∙ sym (length-map (before s (v .inputsEnd) (v .inputCount)) typeOfByte)
-        ∙ sym (ap (λ x. length (x .inputTypes)) (v .is)) ∙ ins in
-        let start : v .inputsEnd - v .inputCount ≡ 1 = omega (arith, g .bytes .next) in
-        let bytes : before s (v .inputsEnd) (v .inputCount) ≡ take i (drop 1 s) = rw (start, inputs) in
-        record {
-          sheet = sheet;
-          outcome = rw q;
-          within = omega (arith, g .bytes .next, g .bytes .within, inputs);
-          types = sym (ap (λ x. x .inputTypes) (v .is) ∙ ap (map typeOfByte) bytes);
-          few-inputs = omega (arith, p .few-inputs);
-          few-outputs = omega (arith, p .few-outputs);
-          few-cells = omega (arith, p .few-cells, p .counted, read-counted s q, count);
-          inputs-are = ins;
-          wires-are = ws;
-          outputs-are = outs;
-          cells-are = sym (read-counted s q) ∙ count;
-          end = n;
-          view = rw count at v;
-        }
+passes s i w o k e =
+    let p = check-passed s i w o k e in
+    let v = p .view in
+    let g = section-good s 0 0 17 2 false TypeByte (v .inputs) in
+    let inputs : v .inputCount ≡ i =
+    sym (section-length g) ∙ sym (length-map (before s (v .inputsEnd) (v .inputCount)) typeOfByte)
+    ∙ sym (ap (λ x. length (x .inputTypes)) (v .is)) ∙ p .inputs-are in
+    let start : v .inputsEnd - v .inputCount ≡ 1 = omega (arith, g .bytes .next) in
+    let bytes : before s (v .inputsEnd) (v .inputCount) ≡ take i (drop 1 s) = rw (start, inputs) in
+    record {
+      checked = p;
+      within = omega (arith, g .bytes .next, g .bytes .within, inputs);
+      types = sym (ap (λ x. x .inputTypes) (v .is) ∙ ap (map typeOfByte) bytes);
+    }
 
 -- the answer where 1 to 11 are passed
 abbrev answered : Answer → Tested → Answer
@@ -115,13 +86,8 @@ answered counts Fine = counts
 module _ (s memory input output : List ℕ) where
   pub sheet-refused : {why : Refusal} {place : ℕ} → checkOf s ≡ CheckRefused why place
       → GivenRefused why place ≡ givenAnswer (givenOf s memory input output)
-  unfolding sheetOf givenOf
-  sheet-refused {why} {place} e = go (readSheet s) refl e
-    where
-      go : (x : Reading Sheet) → readSheet s ≡ x → checkedOf x ≡ CheckRefused why place
-          → GivenRefused why place ≡ givenAnswer (givenOf s memory input output)
-      go (refused w p) q h = rw q (cc)
-      go (got sheet n j) q h = absurd (let z : _≡_ {A = ℕ} 0 1 = cc in omega arith)
+  unfolding givenOf
+  sheet-refused e = rw (check-refused s e)
 
   module _ {sheet : Sheet} (e : sheetOf s ≡ result sheet) where
     abbrev buffers : Tested

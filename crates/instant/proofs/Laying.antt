@@ -6,7 +6,7 @@ use native.Mathlib.Omega.{arith}
 use lib.ListN.{length, getD, take, drop}
 use Rattle.sheet.specs.Outcomes.{result}
 use Rattle.sheet.specs.Laws.Typing.{passed-check}
-use Rattle.sheet_expressions.specs.Map.{HoldsJust}
+use Rattle.sheet_expressions.specs.Map.{EachHoldsJust}
 use Rattle.kernel.specs.Instants.{wireCount, readsAt}
 use Rattle.kernel.specs.Calls.{Given, givenOf}
 use Rattle.kernel.specs.Laws.Given.{given-by}
@@ -29,8 +29,7 @@ module _ (s : List ℕ) (inputs wires outputs : ℕ) where
 
 pub record Laid (s memory input output places firsts reads words : List ℕ) (inputs wires outputs : ℕ) : Type 0 where
   pub running : Running s memory (inputWords words) (typesAt s inputs wires outputs) places firsts
-  pub reading : (w : ℕ) → w < length (typesAt s inputs wires outputs)
-      → HoldsJust (getD reads w 0) (readsAt (running .given .sheet .expressions) w)
+  pub reading : EachHoldsJust reads (length (typesAt s inputs wires outputs)) (readsAt (running .given .sheet .expressions))
   pub passes : givenOf s memory input output ≡ result (running .given)
   pub outs : running .given .sheet .outputs ≡ outputsAt s inputs wires outputs
   pub wired : wireCount (running .given .sheet) ≡ length (typesAt s inputs wires outputs)
@@ -48,7 +47,7 @@ laidReads l = record { running = l .running; reading = l .reading }
 record Runs (s memory row types places firsts reads : List ℕ) (given : Given) : Type 0 where
   running : Running s memory row types places firsts
   same : running .given ≡ given
-  reading : (w : ℕ) → w < length types → HoldsJust (getD reads w 0) (readsAt (given .sheet .expressions) w)
+  reading : EachHoldsJust reads (length types) (readsAt (given .sheet .expressions))
 
 renamed : {s memory row types others places firsts reads : List ℕ} {given : Given} → types ≡ others
     → Runs s memory row types places firsts reads given → Runs s memory row others places firsts reads given

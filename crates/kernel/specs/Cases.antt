@@ -120,7 +120,8 @@ one-number = 1 ∷ 1 ∷ 0 ∷ 0 ∷ 0 ∷ []
 abbrev ten-then-twenty : List ℕ
 ten-then-twenty = 17 ∷ 1 ∷ 10 ∷ 0 ∷ 0 ∷ 0 ∷ 1 ∷ 20 ∷ 0 ∷ 0 ∷ 0 ∷ []
 
-abbrev chainSheet : List ℕ
+-- case E
+abbrev pub chainSheet : List ℕ
 chainSheet = 0 ∷ 3 ∷ 1 ∷ 1 ∷ 1 ∷ 3 ∷ 0 ∷ 1 ∷ 2 ∷ 2 ∷ 1 ∷ 2 ∷ 2 ∷ 1 ∷ 5 ∷ 0 ∷ 0 ∷ 0 ∷ []
 
 -- case L, with the kind of its three choices: x1, x2, y1, y2 and y

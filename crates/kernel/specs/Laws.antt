@@ -1,4 +1,5 @@
 pub mod Pigeonhole
+pub mod Reads
 pub mod Order
 pub mod Equality
 pub mod Counting

@@ -3,23 +3,12 @@
 use kernel::InRounds;
 use kernel::Scheduled;
 use sheet::Checked;
-use sheet::Refusal;
 use sheet::Started;
 use sheet::refusals;
 ghost use mathlib.Core.Path.{_≡_};
-ghost use Prim.Native.Nat.{_≤_};
-ghost use Rattle.sheet.specs.Outcomes.{packedRefusal};
 ghost use Rattle.sheet.specs.Sheets.{checkOf, packedChecked};
 ghost use Rattle.sheet.specs.Memory.{startCall, packedStarted};
 ghost use Rattle.kernel.specs.Calls.{roundsCall, scheduledCall, packedRounds, packedScheduled};
-
-// A refusal as one number, which keeps number and place apart.
-fn packed(why: Refusal, place: usize) -> u32
-    requires { ⌜ place ≤ 4096 ⌝ }
-    ensures { λ r. ⌜ r ≡ packedRefusal why place ⌝ }
-{
-    refusals::number(why) * 65536 + place as u32
-}
 
 // The check: the cells, or a refusal.
 #[no_mangle]
@@ -27,7 +16,7 @@ pub extern "C" fn nuthatchbed_check(sheet: &[u8]) -> u32
     ensures { λ r. ⌜ r ≡ packedChecked (checkOf (now (sheet .entry))) ⌝ }
 {
     match sheet_check::check(sheet) {
-        Checked::Refused { why, place } => packed(why, place),
+        Checked::Refused { why, place } => refusals::packed(why, place),
         Checked::Passed {
             inputs: _,
             wires: _,
@@ -44,7 +33,7 @@ pub extern "C" fn nuthatchbed_start(sheet: &[u8], memory: &mut [u8]) -> u32
     ensures { λ _. ⌜ now (memory .exit) ≡ startCall (now (sheet .entry)) (now (memory .entry)) .memory ⌝ }
 {
     match sheet_start::start(sheet, memory) {
-        Started::Refused { why, place } => packed(why, place),
+        Started::Refused { why, place } => refusals::packed(why, place),
         Started::Done => 0,
     }
 }
@@ -64,7 +53,7 @@ pub extern "C" fn nuthatchbed_rounds(
         ≡ roundsCall (now (sheet .entry)) (now (memory .entry)) (now (input .entry)) (now (output .entry)) .output ⌝ }
 {
     match instant::in_rounds(sheet, memory, input, output) {
-        InRounds::Refused { why, place } => packed(why, place),
+        InRounds::Refused { why, place } => refusals::packed(why, place),
         InRounds::Accepted { rounds } => rounds as u32,
     }
 }
@@ -86,7 +75,7 @@ pub extern "C" fn nuthatchbed_scheduled(
         (now (output .entry)) (now (schedule .entry)) .output ⌝ }
 {
     match instant::along_schedule(sheet, memory, input, output, schedule) {
-        Scheduled::Refused { why, place } => packed(why, place),
+        Scheduled::Refused { why, place } => refusals::packed(why, place),
         Scheduled::Accepted => 0,
     }
 }

@@ -12,10 +12,9 @@ use borrow.Author.Tests.{eqb-true, eq-eqb, leb-true}
 use Rattle.sheet.specs.Outcomes.{result}
 use Rattle.sheet.specs.Sheets.{Sheet, sheetForms, sheetOf, checkOf}
 use Rattle.sheet.specs.Memory.{memoryBytes, startMemory, startOutcome, startCall}
-use Rattle.sheet.specs.Laws.Typing.{passed-check}
+use Rattle.sheet.specs.Laws.Checked.{check-passed}
 use Rattle.sheet.specs.declared.Checked.{Checked}
 use Rattle.sheet.specs.declared.Checked.the-variants.{Passed}
-use Rattle.given.proofs.Passing.{passes}
 use Rattle.lines.specs.Buffers.{Holds}
 use Rattle.lines.specs.Lines.{shortLine, sheetLine}
 use Rattle.play.specs.Text.{lengthAt, sheetIn, rowsIn, zeros, instantsDue, isComplete, checkedText, bytesText}
@@ -59,14 +58,8 @@ pub record Few (inputs wires outputs cells : ℕ) : Type 0 where
 
 pub few-counts : (s : List ℕ) {i w o k : ℕ} → checkOf s ≡ Passed i w o k → Few i w o k
 few-counts s e =
-    let p = passes s _ _ _ _ e in
-    let known = passed-check s (p .outcome) in
-    record {
-      inputs-few = p .few-inputs;
-      wires-few = omega (arith, p .wires-are, known .same-length, known .few-wires);
-      outputs-few = p .few-outputs;
-      cells-few = p .few-cells;
-    }
+    let p = check-passed s _ _ _ _ e in
+    record { inputs-few = p .few-inputs; wires-few = p .few-wires; outputs-few = p .few-outputs; cells-few = p .few-cells }
 
 -- the start fills a memory of its length, whatever that held
 start-filled : (s memory : List ℕ) {sheet : Sheet} → sheetOf s ≡ result sheet → length memory ≡ 5 * length (sheetForms sheet)
@@ -77,7 +70,7 @@ start-filled s memory e fits = rw (e, eq-eqb _ _ fits)
 start-same : (s memory other : List ℕ) {i w o k : ℕ} → checkOf s ≡ Passed i w o k → length memory ≡ 5 * k → length other ≡ 5 * k
     → startCall s memory .memory ≡ startCall s other .memory
 start-same s memory other e l m =
-    let p = passes s _ _ _ _ e in
+    let p = check-passed s _ _ _ _ e in
     start-filled s memory (p .outcome) (l ∙ ap (λ n. 5 * n) (sym (p .cells-are)))
     ∙ sym (start-filled s other (p .outcome) (m ∙ ap (λ n. 5 * n) (sym (p .cells-are))))
 

@@ -11,7 +11,7 @@ use Rattle.sheet.specs.Readings.{got, readEach, readExpression}
 use Rattle.sheet.specs.Sheets.{sheetForms}
 use Rattle.sheet.specs.Typing.{WellTyped, ValidInputs, ValidMemory}
 use Rattle.sheet.specs.declared.Datum.{Datum}
-use Rattle.sheet_expressions.specs.Map.{StartsAt, HoldsJust, runOf}
+use Rattle.sheet_expressions.specs.Map.{StartsAt, EachHoldsJust, runOf}
 use Rattle.kernel.specs.Values.{Fits}
 use Rattle.kernel.specs.Order.{valueAt}
 use Rattle.kernel.specs.Instant.{inputAt}
@@ -48,7 +48,7 @@ pub record Running (s memory row types places firsts : List ℕ) : Type 0 where
 -- what runs, with the set of the wires that each wire reads within the instant
 pub record RunningReads (s memory row types places firsts reads : List ℕ) : Type 0 where
   pub running : Running s memory row types places firsts
-  pub reading : (w : ℕ) → w < length types → HoldsJust (getD reads w 0) (readsAt (running .given .sheet .expressions) w)
+  pub reading : EachHoldsJust reads (length types) (readsAt (running .given .sheet .expressions))
 
 -- an unknown wire is not in the set, and its word is free: nobody reads it; a known one is in it, and its word stands for its datum
 pub data Held : Bool → ℕ → Value → Type 0 where

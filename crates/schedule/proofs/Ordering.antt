@@ -14,6 +14,7 @@ use Rattle.sheet.specs.Sheets.{Sheet}
 use Rattle.sheet.specs.Laws.Lowest.{lowest-first}
 use Rattle.sheet.specs.declared.Refusal.the-variants.{ScheduleLength, ScheduleEntry, ScheduleOrder}
 use Rattle.sheet_expressions.specs.Map.{HoldsJust}
+use Rattle.sheet_expressions.specs.Sets.{holds-none, holds-more, within-among}
 use Rattle.wires.specs.Sets.{member, TestsWithin}
 use Rattle.sheet.specs.Lists.{among, allAmong}
 use Rattle.sheet.specs.Laws.Lists.{both, neither, among-append}
@@ -22,55 +23,18 @@ use Rattle.kernel.specs.Schedules.{entryAt, notNew, tooEarly, scheduleOf}
 use Rattle.schedule.specs.Orders.{orderedAnswer}
 use Rattle.schedule.specs.declared.Ordered.the-variants.{Refused, Passed}
 
--- a list is among another where each of its wires is
-all-among : (ws ys : List ℕ) → ((k : ℕ) → among k ws ≡ true → among k ys ≡ true) → allAmong ws ys ≡ true
-unfolding among allAmong
-all-among [] ys h = refl
-all-among (w ∷ ws) ys h =
-    let rest : allAmong ws ys ≡ true = all-among ws ys (λ k e. h k (ap (λ b. eqb k w || b) e ∙ or-true (eqb k w))) in
-    let first : among w ys ≡ true = h w (rw (eq-eqb w w refl)) in
-    rw (first) rest
-
-each-among : (ws ys : List ℕ) → allAmong ws ys ≡ true → (k : ℕ) → among k ws ≡ true → among k ys ≡ true
-unfolding among allAmong
-each-among [] ys e k i = absurd (true≢false (sym i))
-each-among (w ∷ ws) ys e k i =
-    let (first, rest) = both (among w ys) (allAmong ws ys) e in go (eqb k w) refl first (each-among ws ys rest k) i
-  where
-    go : (t : Bool) → eqb k w ≡ t → among w ys ≡ true → (among k ws ≡ true → among k ys ≡ true) → (t || among k ws) ≡ true
-        → among k ys ≡ true
-    go true same first rest i = rw (eqb-true k w same) first
-    go false other first rest i = rest i
-
--- the test of two sets that hold just the wires of two lists is the test of the lists
-within-among : {n m : ℕ} {ws ys : List ℕ} (r : Bool) → HoldsJust n ws → HoldsJust m ys → TestsWithin n m r → allAmong ws ys ≡ r
-within-among {ws = ws} {ys} true inner outer test =
-    all-among ws ys (λ k e. sym (outer .same k) ∙ test .all refl k (inner .same k ∙ e))
-within-among {n} {m} {ws} {ys} false inner outer test = go (allAmong ws ys) refl
-  where
-    go : (t : Bool) → allAmong ws ys ≡ t → t ≡ false
-    go false e = refl
-    go true e = sym (test .only (λ k i. outer .same k ∙ each-among ws ys e k (sym (inner .same k) ∙ i)))
-
 -- the set holds just the entries before a position
 pub record Holds (list : List ℕ) (p bits : ℕ) : Type 0 where
   pub just : HoldsJust bits (take p list)
 
 module _ (list : List ℕ) where
   pub none-named : {bits : ℕ} → ((w : ℕ) → member bits w ≡ false) → Holds list 0 bits
-  unfolding among
-  none-named empty = record { just = record { same = empty } }
+  none-named empty = record { just = holds-none empty }
 
   pub one-more-named : {p bits more : ℕ} → p < length list → Holds list p bits
       → ((w : ℕ) → member more w ≡ (member bits w || eqb w (entryAt list p))) → Holds list (p + 1) more
-  unfolding among
   one-more-named {p} inside holds added =
-      record {
-        just = record {
-          same = λ w. rw (add-one, take-suc list p 0 inside, among-append w (take p list) (entryAt list p ∷ []), or-false)
-              (added w ∙ ap (λ b. b || eqb w (entryAt list p)) (holds .just .same w));
-        };
-      }
+      record { just = rw (add-one, take-suc list p 0 inside) (holds-more (entryAt list p) (holds .just) added) }
 
   -- check 18 at a position
   pub outside : (n p : ℕ) → n ≤ entryAt list p → notNew list n p ≡ true

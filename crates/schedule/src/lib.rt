@@ -4,10 +4,10 @@ use wires::Wires;
 ghost use mathlib.Core.Path.{_≡_};
 ghost use mathlib.Core.List.{List};
 ghost use Prim.Native.Nat.{ℕ, _<_, _≤_};
-ghost use lib.ListN.{length, getD};
+ghost use lib.ListN.{length};
 ghost use Rattle.sheet.specs.Outcomes.{lowest};
 ghost use Rattle.sheet.specs.Sheets.{Sheet};
-ghost use Rattle.sheet_expressions.specs.Map.{HoldsJust};
+ghost use Rattle.sheet_expressions.specs.Map.{EachHoldsJust};
 ghost use Rattle.kernel.specs.Instants.{readsAt};
 ghost use Rattle.kernel.specs.Schedules.{entryAt, notNew, tooEarly, scheduleOf};
 ghost use Rattle.schedule.specs.Orders.{orderedAnswer};
@@ -42,7 +42,7 @@ fn first_not_new(list: &[u8], wires: usize) -> usize
 // The first position whose wire reads, within the instant, a wire not named before it; the count of the wires where there is none.
 fn first_too_early(list: &[u8], wires: usize, reads: &[u64; 64]) -> usize
     requires { ⌜ (wires ≤ 64) × (length (now list) ≡ wires) × ((p : ℕ) → p < wires → entryAt (now list) p < wires) ⌝ }
-    ensures { λ r. ⌜ ((readsOf : ℕ → List ℕ) → ((w : ℕ) → w < wires → HoldsJust (getD (now (reads .entry)) w 0) (readsOf w))
+    ensures { λ r. ⌜ ((readsOf : ℕ → List ℕ) → EachHoldsJust (now (reads .entry)) wires readsOf
         → r ≡ lowest (tooEarly (now (list .entry)) readsOf) wires) ⌝ }
 {
     let mut named = Wires::none();
@@ -65,7 +65,7 @@ fn first_too_early(list: &[u8], wires: usize, reads: &[u64; 64]) -> usize
 pub fn check_schedule(list: &[u8], wires: usize, reads: &[u64; 64]) -> Ordered
     requires { ⌜ wires ≤ 64 ⌝ }
     ensures { λ r. ⌜ ((s : Sheet) → length (s .expressions) ≡ wires
-        → ((w : ℕ) → w < wires → HoldsJust (getD (now (reads .entry)) w 0) (readsAt (s .expressions) w))
+        → EachHoldsJust (now (reads .entry)) wires (readsAt (s .expressions))
         → r ≡ orderedAnswer (scheduleOf s (now (list .entry)))) ⌝ }
 {
     if list.len() != wires {

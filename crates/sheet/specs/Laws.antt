@@ -5,6 +5,7 @@ pub mod Readings
 pub mod Reads
 pub mod Headers
 pub mod Typing
+pub mod Checked
 pub mod Memory
 pub mod Refusals
 pub mod Examples

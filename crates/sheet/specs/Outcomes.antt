@@ -7,7 +7,7 @@ use Rattle.sheet.specs.declared.Refusal.{Refusal}
 use Rattle.sheet.specs.declared.Refusal.the-variants.{SheetLength, Cut, CountRange, TypeByte, OutputWire}
 use Rattle.sheet.specs.declared.Refusal.the-variants.{Kind, Body, Level, TypeAsked, CellLimit, LeftOver}
 use Rattle.sheet.specs.declared.Refusal.the-variants.{MemoryLength, CellContent, InputLength, InputContent, OutputLength}
-use Rattle.sheet.specs.declared.Refusal.the-variants.{ScheduleLength, ScheduleEntry, ScheduleOrder, StaysUnknown}
+use Rattle.sheet.specs.declared.Refusal.the-variants.{ScheduleLength, ScheduleEntry, ScheduleOrder, StaysUnknown, NoSchedule}
 
 abbrev pub numberOf : Refusal → ℕ
 numberOf SheetLength = 1
@@ -30,8 +30,9 @@ numberOf ScheduleLength = 17
 numberOf ScheduleEntry = 18
 numberOf ScheduleOrder = 19
 numberOf StaysUnknown = 20
+numberOf NoSchedule = 21
 
--- the number that a call of the C library returns for a refusal
+-- a refusal as one number, as the C library returns it
 abbrev pub packedRefusal : Refusal → ℕ → ℕ
 packedRefusal why place = numberOf why * 65536 + place
 

@@ -18,7 +18,7 @@ pub enum Cell {
     Started(Datum),
 }
 
-// Why a call refuses, in the order of document 01's numbers from 1 to 20.
+// Why a call refuses, in the order of the numbers: document 01's from 1 to 20, then those of the change requests.
 pub enum Refusal {
     SheetLength,
     Cut,
@@ -40,6 +40,7 @@ pub enum Refusal {
     ScheduleEntry,
     ScheduleOrder,
     StaysUnknown,
+    NoSchedule,
 }
 
 // What reading at a place finds: a refusal, or the place past what was read and a number. The number is a count or a byte of

@@ -1,7 +1,8 @@
-// The numbers of refusals, as document 01 counts them. It rests on nothing.
+// The numbers of refusals, as documents 01 and 02 count them, and a refusal as one number. It rests on nothing.
 use crate::Refusal;
 ghost use mathlib.Core.Path.{_≡_};
-ghost use Rattle.sheet.specs.Outcomes.{numberOf};
+ghost use Prim.Native.Nat.{_<_};
+ghost use Rattle.sheet.specs.Outcomes.{numberOf, packedRefusal};
 
 // The number of a refusal.
 pub fn number(why: Refusal) -> u32
@@ -28,5 +29,14 @@ pub fn number(why: Refusal) -> u32
         Refusal::ScheduleEntry => 18,
         Refusal::ScheduleOrder => 19,
         Refusal::StaysUnknown => 20,
+        Refusal::NoSchedule => 21,
     }
+}
+
+// A refusal as one number, which keeps number and place apart.
+pub fn packed(why: Refusal, place: usize) -> u32
+    requires { ⌜ place < 65536 ⌝ }
+    ensures { λ r. ⌜ r ≡ packedRefusal why place ⌝ }
+{
+    number(why) * 65536 + place as u32
 }

@@ -21,7 +21,7 @@ use Rattle.sheet.specs.declared.Read.{Read}
 use Rattle.sheet.specs.declared.Refusal.{Refusal}
 use Rattle.sheet.specs.declared.Read.the-variants.{Refused, Got}
 use Rattle.sheet_own.specs.Own.{Joins}
-use Rattle.sheet_expressions.specs.Map.{WiresRead, StartsAt, Entered, HoldsJust, Checks, Mapped, Drawn}
+use Rattle.sheet_expressions.specs.Map.{WiresRead, StartsAt, Entered, HoldsJust, EachHoldsJust, Checks, Mapped, Drawn}
 use Rattle.sheet_expressions.proofs.Noting.{entered-none, entered-append, pairs-length}
 use Rattle.sheet_expressions.proofs.Locating.{treeAt, Left, all-left, turn}
 
@@ -47,7 +47,7 @@ module _ {s : List ℕ} {wires at : ℕ} (run : WiresRead s wires at) where
   pub record Drawing (w next count : ℕ) (places firsts reads before cells : List ℕ) : Type 0 where
     pub left : Left run w next count
     pub place : (v : ℕ) → v < w → StartsAt run v (getD places v 0) (getD firsts v 0)
-    pub read : (v : ℕ) → v < w → HoldsJust (getD reads v 0) (wiresRead (treeAt (run .trees) v))
+    pub read : EachHoldsJust reads w (λ v. wiresRead (treeAt (run .trees) v))
     pub noted : Entered s (formsOf (take w (run .trees))) 0 before cells
 
   pub nothing-drawn : {places firsts reads cells : List ℕ} → Drawing 0 at 0 places firsts reads cells cells

@@ -64,6 +64,10 @@ pub record Entered (s : List ℕ) (forms : List CellForm) (c : ℕ) (before afte
 pub record HoldsJust (bits : ℕ) (ws : List ℕ) : Type 0 where
   pub same : (w : ℕ) → member bits w ≡ among w ws
 
+-- of each of n wires a set holds just those of its list
+abbrev pub EachHoldsJust : (rows : List ℕ) (n : ℕ) (lists : ℕ → List ℕ) → Type 0
+EachHoldsJust rows n lists = (w : ℕ) → w < n → HoldsJust (getD rows w 0) (lists w)
+
 -- the answer is that of a reading; and where it got something, its cells were noted behind c others, and what it reads within the
 -- instant was joined to a set
 pub record Checks {A : Type 0} (s : List ℕ) (formsOf : A → List CellForm) (readsOf : A → List ℕ) (reading : Reading A)
@@ -90,7 +94,7 @@ pub record WiresLookup (types names : List ℕ) : Type 0 where
 -- what holds of a map: each wire starts where it says and reads what it says
 pub record Sited {s : List ℕ} {wires at : ℕ} (run : WiresRead s wires at) (places firsts reads : List ℕ) : Type 0 where
   pub wire : (w : ℕ) → w < wires → StartsAt run w (getD places w 0) (getD firsts w 0)
-  pub read : (w : ℕ) → w < wires → HoldsJust (getD reads w 0) (wiresRead (getD (run .trees) w (constant (Boolean false))))
+  pub read : EachHoldsJust reads wires (λ w. wiresRead (getD (run .trees) w (constant (Boolean false))))
 
 -- and each cell was noted
 pub record Mapped {s : List ℕ} {wires at : ℕ} (run : WiresRead s wires at) (places firsts reads cells : List ℕ) : Type 0 where

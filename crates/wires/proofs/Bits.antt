@@ -3,15 +3,16 @@ use Prim.Native.Nat.{ℕ, zero, suc, _+_, _-_, _*_, _/_, _%_, _^_, _≤_, _<_}
 use mathlib.Core.Path.{_≡_, refl, sym, ap, ap₂, _∙_}
 use mathlib.Core.Bool.{Bool, true, false, cond, not, _&&_, _||_, true≢false}
 use native.Mathlib.Nat.{mod-lt, mod-eq-of-lt, mod-one, div-one, div-eq-of-lt, mul-mod-left, mul-div-cancel}
-use native.Mathlib.Nat.{pow-suc, zero-lt-suc, lt-of-lt-of-le, zero-div, one-mul}
+use native.Mathlib.Nat.{pow-suc, zero-lt-suc, lt-of-lt-of-le, one-mul}
 use native.Mathlib.Numerals.{one-add}
 use native.Mathlib.Omega.{arith}
 use lib.Dec.{eqb, ltb, eqb·suc-suc, eqb·zero-suc, eqb·suc-zero, lit<}
 use lib.Bits.{bitOr, bitAnd, or-shr, or-mod, or-lt, and-shr, and-mod, and-lt, and-mask}
 use lib.Count.{ones, ones-cat, ones-ones, trailingZeros, under, trailing-le}
 use lib.Pow.{pow-pos, pow-mono, pow-lt, shr-shr, mod-pow-add}
-use borrow.Author.Tests.{eqb-true, eq-eqb, ne-eqb, ltb-true, ltb-false, not-false}
-use Rattle.wires.specs.Sets.{member, tally, LowestMissing, TestsMeeting, TestsWithin}
+use borrow.Author.Tests.{eqb-true, eq-eqb, ne-eqb, ltb-true, ltb-false, not-false, not-true}
+use Rattle.wires.specs.Laws.{none-in}
+use Rattle.wires.specs.Sets.{member, tally, LowestMissing, LowestPresent, TestsMeeting, TestsWithin}
 
 -- one digit further up is one digit of the half
 half : (n k : ℕ) → n / 2 ^ suc k ≡ n / 2 / 2 ^ k
@@ -26,7 +27,7 @@ digit-or (suc zero) (suc zero) hp hq = refl
 digit-or (suc zero) (suc (suc q)) hp hq = absurd (omega arith)
 digit-or (suc (suc p)) q hp hq = absurd (omega arith)
 
-or-member : (a b k : ℕ) → member (bitOr a b) k ≡ (member a k || member b k)
+pub or-member : (a b k : ℕ) → member (bitOr a b) k ≡ (member a k || member b k)
 unfolding member
 or-member a b k =
     ap (λ (x : ℕ). eqb (x % 2) 1) (or-shr a b k) ∙ ap (λ (x : ℕ). eqb x 1) (or-mod (a / 2 ^ k) (b / 2 ^ k) 1)
@@ -49,10 +50,6 @@ with-is n w k h =
 pub has-is : (n k : ℕ) → eqb (bitAnd (n / 2 ^ k) 1) 1 ≡ member n k
 unfolding member
 has-is n k = ap (λ (x : ℕ). eqb x 1) (and-mask (n / 2 ^ k) 1)
-
-pub none-in : (k : ℕ) → member 0 k ≡ false
-unfolding member
-none-in k = rw (zero-div (2 ^ k))
 
 -- The count.
 
@@ -177,38 +174,51 @@ minus-is n m k hn hm = and-member n (2 ^ 64 - 1 - m) k ∙ go (ltb k 64) refl
     go true e = rw (not-member 64 m k hm (ltb-true k 64 e))
     go false e = rw (beyond n 64 k hn (ltb-false k 64 e))
 
--- The lowest that is missing.
+pub without-is : (n w k : ℕ) → n < 2 ^ 64 → w < 64 → member (bitAnd n (2 ^ 64 - 1 - 1 * 2 ^ w % 2 ^ 64)) k ≡ (member n k && not (eqb k w))
+without-is n w k hn h =
+    let power = pow-lt {i = w} {j = 64} h in
+    rw (one-mul (2 ^ w), mod-eq-of-lt power)
+    (minus-is n (2 ^ w) k hn power ∙ ap (λ (b : Bool). member n k && not b) (one-member w k))
 
--- what the code counts at k digits: the zeros below the lowest one of the complement
-abbrev lowest : ℕ → ℕ → ℕ
-lowest k n = trailingZeros k (2 ^ k - 1 - n)
+-- The lowest that is present, at k digits: as many zeros stand below the lowest one.
 
--- the complement of n at one digit more
-turned : (k n : ℕ) → n < 2 ^ suc k → lowest (suc k) n ≡ under (1 - n % 2) (lowest k (n / 2))
+zeros-below : (k n j : ℕ) → j < trailingZeros k n → member n j ≡ false
 unfolding trailingZeros
-turned k n h =
-    let (low, rest) = turned-digits k n h in rw (low, rest)
-
-below : (k n j : ℕ) → n < 2 ^ k → j < lowest k n → member n j ≡ true
-unfolding trailingZeros
-below zero n j h g = absurd (omega arith)
-below (suc k) n j h g = go (λ i l. below k (n / 2) i (halves k n h) l) (1 - n % 2) j refl (rw (turned k n h) at g)
+zeros-below zero n j g = absurd (omega arith)
+zeros-below (suc k) n j g = go (zeros-below k (n / 2)) (n % 2) j refl g
   where
-    go : ((i : ℕ) → i < lowest k (n / 2) → member (n / 2) i ≡ true)
-        → (d j : ℕ) → 1 - n % 2 ≡ d → j < under d (lowest k (n / 2)) → member n j ≡ true
-    go rest zero zero e g = member-zero n ∙ eq-eqb (n % 2) 1 (omega arith)
+    go : ((i : ℕ) → i < trailingZeros k (n / 2) → member (n / 2) i ≡ false)
+        → (d j : ℕ) → n % 2 ≡ d → j < under d (trailingZeros k (n / 2)) → member n j ≡ false
+    go rest zero zero e g = member-zero n ∙ ne-eqb (n % 2) 1 (λ (q : n % 2 ≡ 1). omega arith)
     go rest zero (suc j) e g = member-suc n j ∙ rest j (omega arith)
     go rest (suc d) j e g = absurd (omega arith)
 
-missing : (k n : ℕ) → n < 2 ^ k → lowest k n < k → member n (lowest k n) ≡ false
+one-above : (k n : ℕ) → trailingZeros k n < k → member n (trailingZeros k n) ≡ true
 unfolding trailingZeros
-missing zero n h g = absurd (omega arith)
-missing (suc k) n h g = rw (turned k n h) (go (missing k (n / 2) (halves k n h)) (1 - n % 2) refl (rw (turned k n h) at g))
+one-above zero n g = absurd (omega arith)
+one-above (suc k) n g = go (one-above k (n / 2)) (n % 2) refl g
   where
-    go : (lowest k (n / 2) < k → member (n / 2) (lowest k (n / 2)) ≡ false)
-        → (d : ℕ) → 1 - n % 2 ≡ d → under d (lowest k (n / 2)) < suc k → member n (under d (lowest k (n / 2))) ≡ false
+    go : (trailingZeros k (n / 2) < k → member (n / 2) (trailingZeros k (n / 2)) ≡ true)
+        → (d : ℕ) → n % 2 ≡ d → under d (trailingZeros k (n / 2)) < suc k → member n (under d (trailingZeros k (n / 2))) ≡ true
     go rest zero e g = member-suc n _ ∙ rest (omega arith)
-    go rest (suc d) e g = member-zero n ∙ ne-eqb (n % 2) 1 (λ (q : n % 2 ≡ 1). omega arith)
+    go rest (suc d) e g = member-zero n ∙ eq-eqb (n % 2) 1 (omega arith)
 
-pub lowest-is : (n : ℕ) → n < 2 ^ 64 → LowestMissing (member n) 64 (lowest 64 n)
-lowest-is n h = record { within = trailing-le 64 (2 ^ 64 - 1 - n); below = λ j l. below 64 n j h l; missing = missing 64 n h }
+pub lowest-present-is : (n : ℕ) → n < 2 ^ 64 → LowestPresent (member n) 64 (trailingZeros 64 n)
+lowest-present-is n h =
+    record { within = trailing-le 64 n; below = zeros-below 64 n; present = one-above 64 n; empty = λ none j. go none j (ltb j 64) refl }
+  where
+    go : 64 ≤ trailingZeros 64 n → (j : ℕ) (t : Bool) → ltb j 64 ≡ t → member n j ≡ false
+    go none j true e = let l = ltb-true j 64 e in zeros-below 64 n j (omega arith)
+    go none j false e = beyond n 64 j h (ltb-false j 64 e)
+
+-- the lowest that is missing is the lowest that is present in the complement
+pub lowest-is : (n : ℕ) → n < 2 ^ 64 → LowestMissing (member n) 64 (trailingZeros 64 (2 ^ 64 - 1 - n))
+lowest-is n h =
+    record {
+      within = low .within;
+      below = λ j l. not-false (member n j) (sym (not-member 64 n j h (omega (arith, low .within))) ∙ low .below j l);
+      missing = λ l. not-true (member n (trailingZeros 64 (2 ^ 64 - 1 - n))) (sym (not-member 64 n _ h l) ∙ low .present l);
+    }
+  where
+    low : LowestPresent (member (2 ^ 64 - 1 - n)) 64 (trailingZeros 64 (2 ^ 64 - 1 - n))
+    low = lowest-present-is (2 ^ 64 - 1 - n) (omega arith)

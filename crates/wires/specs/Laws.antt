@@ -1,13 +1,18 @@
--- Laws of counting and of the lowest missing number, for any set: what callers need to know of the definitions.
-use Prim.Native.Nat.{ℕ, zero, suc, _+_, _-_, _≤_, _<_}
+-- Laws of counting and of the lowest number that a set has or misses, for any set: what callers need to know of the definitions.
+use Prim.Native.Nat.{ℕ, zero, suc, _+_, _-_, _^_, _≤_, _<_}
 use mathlib.Core.Path.{_≡_, refl, sym, ap, _∙_}
-use mathlib.Core.Bool.{Bool, true, false, cond, _||_, or-true, true≢false}
-use native.Mathlib.Nat.{suc-add, zero-add, le-antisymm, lt-of-not-le}
+use mathlib.Core.Bool.{Bool, true, false, cond, not, _&&_, _||_, or-true, and-false, true≢false}
+use native.Mathlib.Nat.{suc-add, zero-add, zero-div, le-antisymm, lt-of-not-le}
 use native.Mathlib.Omega.{arith}
 use lib.Dec.{eqb}
 use borrow.Author.Count.{below-more}
 use borrow.Author.Tests.{eq-eqb}
-use Rattle.wires.specs.Sets.{tally, LowestMissing}
+use Rattle.wires.specs.Sets.{member, tally, LowestMissing, LowestPresent}
+
+-- no bit of 0 is 1
+pub none-in : (k : ℕ) → member 0 k ≡ false
+unfolding member
+none-in k = rw (zero-div (2 ^ k))
 
 -- the count below n depends only on the members below n
 pub tally-same : (f g : ℕ → Bool) (n : ℕ) → ((k : ℕ) → k < n → f k ≡ g k) → tally f n ≡ tally g n
@@ -94,3 +99,14 @@ lowest-missing-rises f g k r s p l added q =
     within j m =
         let here : (f r || eqb r r) ≡ true = rw (eq-eqb r r refl) (or-true (f r)) in
         added j ∙ below-more (λ i. (f i || eqb i r) ≡ true) r (λ i n. rw (p .below i n)) here j (omega arith)
+
+-- with the lowest number taken out, the lowest one is higher
+pub lowest-present-rises : (f g : ℕ → Bool) (k r s : ℕ) → LowestPresent f k r → r < k → ((j : ℕ) → g j ≡ (f j && not (eqb j r)))
+    → LowestPresent g k s → r < s
+lowest-present-rises f g k r s p l taken q =
+    lt-of-not-le (λ (m : s ≤ r). true≢false (sym (q .present (omega arith)) ∙ gone s m))
+  where
+    gone : (j : ℕ) → j ≤ r → g j ≡ false
+    gone j m =
+        let here : (f r && not (eqb r r)) ≡ false = rw (eq-eqb r r refl) (and-false (f r)) in
+        taken j ∙ below-more (λ i. (f i && not (eqb i r)) ≡ false) r (λ i n. rw (p .below i n)) here j (omega arith)

@@ -27,6 +27,13 @@ unfoldable pub tally : (ℕ → Bool) → ℕ → ℕ
 tally f zero = zero
 tally f (suc k) = cond (f k) 1 0 + tally f k
 
+-- r is the lowest number in the set, whose numbers are below k, or k where the set is empty
+pub record LowestPresent (f : ℕ → Bool) (k r : ℕ) : Type 0 where
+  pub within : r ≤ k
+  pub below : (j : ℕ) → j < r → f j ≡ false
+  pub present : r < k → f r ≡ true
+  pub empty : k ≤ r → (j : ℕ) → f j ≡ false
+
 -- r is the lowest number below k that is not in the set, or k where all are
 pub record LowestMissing (f : ℕ → Bool) (k r : ℕ) : Type 0 where
   pub within : r ≤ k

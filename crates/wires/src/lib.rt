@@ -1,9 +1,9 @@
-// The set of known wires, held as 64 bits by value: wire k is in the set where bit k is 1.
+// A set of wires, such as the known ones, held as 64 bits by value: wire k is in the set where bit k is 1.
 ghost use mathlib.Core.Path.{_≡_};
 ghost use Prim.Native.Nat.{ℕ, _<_};
 ghost use mathlib.Core.Bool.{_&&_, _||_, not, false};
 ghost use lib.Dec.{eqb};
-ghost use Rattle.wires.specs.Sets.{member, tally, LowestMissing, TestsMeeting, TestsWithin};
+ghost use Rattle.wires.specs.Sets.{member, tally, LowestMissing, LowestPresent, TestsMeeting, TestsWithin};
 
 // A set of wires, each below 64.
 pub struct Wires {
@@ -36,6 +36,15 @@ impl Wires {
         }
     }
 
+    // The set with the wires of `other` added.
+    pub fn joined(self, other: Wires) -> Wires
+        ensures { λ r. ⌜ ((k : ℕ) → member (r .bits) k ≡ (member (self .bits) k || member (other .bits) k)) ⌝ }
+    {
+        Wires {
+            bits: self.bits | other.bits,
+        }
+    }
+
     // Whether every wire of the set is in `other` too: then nothing is added to `other`.
     pub fn within(self, other: Wires) -> bool
         ensures { λ r. ⌜ TestsWithin (self .bits) (other .bits) r ⌝ }
@@ -59,11 +68,28 @@ impl Wires {
         }
     }
 
+    // The set without `wire`.
+    pub fn without(self, wire: usize) -> Wires
+        requires { ⌜ wire < 64 ⌝ }
+        ensures { λ r. ⌜ ((k : ℕ) → member (r .bits) k ≡ (member (self .bits) k && not (eqb k wire))) ⌝ }
+    {
+        Wires {
+            bits: self.bits & !(1 << wire),
+        }
+    }
+
     // How many wires are in the set.
     pub fn count(self) -> u32
         ensures { λ r. ⌜ r ≡ tally (member (self .bits)) 64 ⌝ }
     {
         u64::count_ones(self.bits)
+    }
+
+    // The lowest wire of the set, or 64 where it is empty.
+    pub fn lowest(self) -> u32
+        ensures { λ r. ⌜ LowestPresent (member (self .bits)) 64 r ⌝ }
+    {
+        u64::trailing_zeros(self.bits)
     }
 
     // The lowest wire that is not in the set, or 64 where all are.

@@ -17,6 +17,8 @@ uint32_t careful_scheduled(const uint8_t *sheet, size_t sheet_length, uint8_t *m
                            const uint8_t *input, size_t input_length, uint8_t *output, size_t output_length,
                            const uint8_t *schedule, size_t schedule_length);
 
-static const struct implementation careful = {careful_check, careful_start, careful_rounds, careful_scheduled};
+uint32_t careful_schedule(const uint8_t *sheet, size_t sheet_length, uint8_t *list, size_t list_length);
+
+static const struct implementation careful = {careful_check, careful_start, careful_rounds, careful_scheduled, careful_schedule};
 
 #endif

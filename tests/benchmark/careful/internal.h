@@ -91,6 +91,9 @@ struct instant {
 /* Reads a sheet into nodes; answers a refusal 1 to 11, or 0. */
 uint32_t read_program(struct program *program, const uint8_t *sheet, size_t length);
 
+/* The same, and each wire is told its reads, which else is done with the links. */
+uint32_t read_program_and_reads(struct program *program, const uint8_t *sheet, size_t length);
+
 /* Links the nodes to their operands, tells each of them its cells and each wire its reads. */
 void link_nodes(struct program *program);
 

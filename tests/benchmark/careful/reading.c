@@ -90,6 +90,16 @@ static uint32_t read_header(struct program *program)
 
 /* ---- The expressions ---- */
 
+/* The reading with the reads noted is made apart from that without, so that the latter does nothing for it. */
+#define ALWAYS_INLINE static inline __attribute__((always_inline))
+
+/* The wire that an expression reads within the instant, if it does; a number only counts where it is a wire's. */
+static inline uint64_t read_of(unsigned kind, unsigned standing, uint32_t number)
+{
+    const unsigned reads_wire = (kind == kind_wire) & ~standing >> delayed_shift;
+    return (uint64_t)reads_wire << number % most_wires;
+}
+
 /* Notes an expression as a node; and as the owner of the next cell, which is written over where it owns none. */
 static inline void note_node(struct program *program, struct node *node, unsigned kind, unsigned standing, unsigned cells,
                              uint32_t number)
@@ -103,14 +113,15 @@ static inline void note_node(struct program *program, struct node *node, unsigne
 }
 
 /* Reads the expression of a wire: the operands that are still to be read stand on a stack, the next one on top. */
-static uint32_t read_wire(struct program *program, unsigned asked_of_wire)
+ALWAYS_INLINE uint32_t read_wire(struct program *program, unsigned wire, bool noting_reads)
 {
     uint16_t stack[2 * deepest_level + 4];
     uint16_t *top = stack;
     size_t place = program->place;
     unsigned cells = program->cells;
     struct node *node = program->end;
-    *top++ = (uint16_t)(1 + (asked_of_wire << number_shift));
+    uint64_t reads = 0;
+    *top++ = (uint16_t)(1 + (program->types[type_wire + wire] >> 1 << number_shift));
     while (top != stack) {
         const unsigned standing = *--top;
         const unsigned asked = standing >> number_shift;
@@ -132,6 +143,8 @@ static uint32_t read_wire(struct program *program, unsigned asked_of_wire)
             return refusal(7, place);
         if ((program->types[shape->type + name] >> asked & 1) == 0)
             return refusal(9, place);
+        if (noting_reads)
+            reads |= read_of(kind, standing, name);
         place += shape->bytes;
         for (unsigned operand = 0; operand < 3; operand++)
             top[operand] = (uint16_t)((shape->fixed[operand] | (standing & shape->taken[operand])) + 1);
@@ -140,10 +153,12 @@ static uint32_t read_wire(struct program *program, unsigned asked_of_wire)
     program->place = place;
     program->cells = cells;
     program->end = node;
+    if (noting_reads)
+        program->wire_reads[wire] = reads;
     return 0;
 }
 
-static uint32_t read_expressions(struct program *program)
+ALWAYS_INLINE uint32_t read_expressions(struct program *program, bool noting_reads)
 {
     program->cells = 0;
     program->end = program->node + 1;
@@ -152,7 +167,7 @@ static uint32_t read_expressions(struct program *program)
     program->name_limit[kind_input] = (uint8_t)program->inputs;
     for (unsigned wire = 0; wire < program->wires; wire++) {
         program->wire_node[wire] = program->end;
-        const uint32_t refused = read_wire(program, program->types[type_wire + wire] >> 1);
+        const uint32_t refused = read_wire(program, wire, noting_reads);
         if (refused != 0)
             return refused;
     }
@@ -160,7 +175,7 @@ static uint32_t read_expressions(struct program *program)
     return program->place < program->length ? refusal(11, program->place) : 0;
 }
 
-uint32_t read_program(struct program *program, const uint8_t *sheet, size_t length)
+ALWAYS_INLINE uint32_t read_sheet_into(struct program *program, const uint8_t *sheet, size_t length, bool noting_reads)
 {
     static const uint8_t types_of_kinds[type_input] = {1, 1, 2, 3};
     if (length == 0 || length > longest_sheet)
@@ -171,7 +186,17 @@ uint32_t read_program(struct program *program, const uint8_t *sheet, size_t leng
     program->length = length;
     program->place = 0;
     const uint32_t refused = read_header(program);
-    return refused != 0 ? refused : read_expressions(program);
+    return refused != 0 ? refused : read_expressions(program, noting_reads);
+}
+
+uint32_t read_program(struct program *program, const uint8_t *sheet, size_t length)
+{
+    return read_sheet_into(program, sheet, length, false);
+}
+
+uint32_t read_program_and_reads(struct program *program, const uint8_t *sheet, size_t length)
+{
+    return read_sheet_into(program, sheet, length, true);
 }
 
 /* ---- The nodes linked ---- */
@@ -187,8 +212,7 @@ static uint64_t link_wire(struct node **path, struct node *node, const struct no
         struct node *const parent = path[(level - 1) & (0u - (standing >> linked_shift))];
         parent->is.link[standing >> third_shift & 1] = (uint16_t)(node - parent);
         path[level] = node;
-        const unsigned reads_wire = (node->kind == kind_wire) & ~standing >> delayed_shift;
-        reads |= (uint64_t)reads_wire << node->is.number % most_wires;
+        reads |= read_of(node->kind, standing, node->is.number);
         for (unsigned above = node->kind >= kind_boolean_pre ? level : 0; above != 0; above--)
             path[above]->end_cell = (uint8_t)(node->first_cell + 1);
     }

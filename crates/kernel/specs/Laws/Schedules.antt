@@ -50,7 +50,7 @@ passes-schedule sheet list h =
 
 -- The checks pass just the lists that demand 3 speaks of.
 module _ (list : List ℕ) where
-  named-earlier : (p w : ℕ) → p ≤ length list → among w (take p list) ≡ true → Earlier list p w
+  pub named-earlier : (p w : ℕ) → p ≤ length list → among w (take p list) ≡ true → Earlier list p w
   unfolding among
   named-earlier zero w l a = never (cc)
   named-earlier (suc p) w l a =

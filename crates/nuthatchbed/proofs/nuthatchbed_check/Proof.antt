@@ -3,8 +3,8 @@ use mathlib.Core.Path.{sym, ap, _∙_}
 use native.Mathlib.Omega.{arith}
 use borrow.Author.Needs.{needs}
 use Rattle.sheet.specs.Sheets.{packedChecked}
+use Rattle.sheet.specs.Laws.Checked.{check-passed}
 use Rattle.sheet.specs.Laws.Refusals.{check-refusals}
-use Rattle.nuthatchbed.proofs.Answers.{checked-cells}
 use Rattle.nuthatchbed.proofs.nuthatchbed_check.Statement.{statement}
 use Rattle.nuthatchbed.proofs.nuthatchbed_check.Tie as tie
 
@@ -15,14 +15,15 @@ enum-known-why : tie.Need-enum-known-why
 enum-known-why c = search needs
 
 packed-requires : tie.Need-packed-requires
-packed-requires c κs = check-refusals _ (sym (c .before .before .before .check .ensures) ∙ c .before .why .given .1) .bounded
+packed-requires c κs =
+    let within = check-refusals _ (sym (c .before .before .before .check .ensures) ∙ c .before .why .given .1) .bounded in omega arith
 
 enum-known-cells : tie.Need-enum-known-cells
 enum-known-cells c = search needs
 
 cast-result : tie.Need-cast-result
 cast-result c =
-    let few = checked-cells _ (sym (c .before .before .before .check .ensures) ∙ c .before .cells .given .1) in
+    let few = check-passed _ _ _ _ _ (sym (c .before .before .before .check .ensures) ∙ c .before .cells .given .1) .few-cells in
     record { fits = omega arith }
 
 returns : tie.Need-returns

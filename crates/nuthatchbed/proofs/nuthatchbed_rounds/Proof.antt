@@ -15,8 +15,9 @@ enum-known-why c = search needs
 
 packed-requires : tie.Need-packed-requires
 packed-requires c κs =
-    rounds-refusals _ _ _ _ (sym (c .before .before .before .before .before .before .before .in-rounds .ensures .answers)
-    ∙ c .before .why .given .1) .1
+    let within = rounds-refusals _ _ _ _ (sym (c .before .before .before .before .before .before .before .in-rounds .ensures .answers)
+    ∙ c .before .why .given .1) .1 in
+    omega arith
 
 enum-known-rounds : tie.Need-enum-known-rounds
 enum-known-rounds c = search needs

@@ -1,5 +1,6 @@
 -- `nuthatchbed_scheduled` meets its contract: the answer of the scheduled instant, packed, and what it leaves. Assumes nothing.
 use mathlib.Core.Path.{sym, ap, _∙_}
+use native.Mathlib.Omega.{arith}
 use borrow.Author.Needs.{needs}
 use Rattle.kernel.specs.Calls.{packedScheduled}
 use Rattle.kernel.specs.Laws.Answers.{scheduled-refusals}
@@ -14,8 +15,9 @@ enum-known-why c = search needs
 
 packed-requires : tie.Need-packed-requires
 packed-requires c κs =
-    scheduled-refusals _ _ _ _ _ (sym (c .before .before .before .before .before .before .before .along-schedule .ensures .answers)
-    ∙ c .before .why .given .1) .bounded
+    let within = scheduled-refusals _ _ _ _ _ (sym (c .before .before .before .before .before .before .before .along-schedule .ensures .answers)
+    ∙ c .before .why .given .1) .bounded in
+    omega arith
 
 enum-told : tie.Need-enum-told
 enum-told c = search needs

@@ -1,5 +1,6 @@
 -- `nuthatchbed_start` meets its contract: the start's answer, packed, and its memory. Assumes nothing.
 use mathlib.Core.Path.{sym, ap, _∙_}
+use native.Mathlib.Omega.{arith}
 use borrow.Author.Needs.{needs}
 use Rattle.sheet.specs.Memory.{packedStarted}
 use Rattle.sheet.specs.Laws.Refusals.{start-refusals}
@@ -14,7 +15,8 @@ enum-known-why c = search needs
 
 packed-requires : tie.Need-packed-requires
 packed-requires c κs =
-    start-refusals _ _ (sym (c .before .before .before .before .before .start .ensures .0) ∙ c .before .why .given .1) .bounded
+    let within = start-refusals _ _ (sym (c .before .before .before .before .before .start .ensures .0) ∙ c .before .why .given .1) .bounded in
+    omega arith
 
 enum-told : tie.Need-enum-told
 enum-told c = search needs

@@ -29,9 +29,10 @@ use Rattle.sheet.specs.Laws.Memory.{memory-view}
 use Rattle.sheet.specs.declared.Cell.{Cell}
 use Rattle.sheet.specs.declared.Cell.the-variants.{NotStarted, Started}
 use Rattle.sheet.specs.declared.Datum.the-variants.{Boolean}
-use Rattle.sheet_expressions.specs.Map.{StartsAt, HoldsJust, Sited, wiresOf, runOf}
+use Rattle.sheet_expressions.specs.Map.{StartsAt, EachHoldsJust, Sited, wiresOf, runOf}
 use Rattle.kernel.specs.Instant.{inputAt, cellAt}
 use Rattle.kernel.specs.Instants.{readsAt}
+use Rattle.kernel.specs.Laws.Reads.{reads-of-tree}
 use Rattle.kernel.specs.Calls.{Given, givenOf}
 use Rattle.sheet.specs.Laws.Lists.{both}
 use Rattle.kernel.specs.Laws.Given.{given-by}
@@ -189,13 +190,6 @@ restarted : {s inputs types others : List ℕ} {at first n k : ℕ} {es trees : 
 restarted here p q =
     record { next = here .next; count = here .count; reads = rw (p, q) at (here .reads); first = rw q at (here .first) }
 
--- the reads of a wire are those of its tree
-reads-of-tree : (trees : List Expression) (w : ℕ) → readsAt trees w ≡ wiresRead (getD trees w (constant (Boolean false)))
-unfolding readsAt wiresRead
-reads-of-tree [] w = refl
-reads-of-tree (e ∷ es) zero = refl
-reads-of-tree (e ∷ es) (suc w) = reads-of-tree es w
-
 -- an input's word is its entry
 entry-word : (input words : List ℕ) → InputsPut input words → (i : ℕ) → 4 * i + 4 ≤ length input
     → getD (inputWords words) i 0 ≡ entryAt input i
@@ -239,7 +233,7 @@ module _ (s memory input output places firsts reads words : List ℕ) (given : G
   pub record Parts : Type 0 where
     pub running : Running s memory (inputWords words) typesOf places firsts
     pub same : running .given ≡ given
-    pub reading : (w : ℕ) → w < length typesOf → HoldsJust (getD reads w 0) (readsAt (given .sheet .expressions) w)
+    pub reading : EachHoldsJust reads (length typesOf) (readsAt (given .sheet .expressions))
     pub outputs : given .sheet .outputs ≡ outputsOf
     pub sized : length typesOf ≡ wiresCount
     pub outputsSized : length outputsOf ≡ outputCount

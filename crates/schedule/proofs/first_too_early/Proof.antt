@@ -5,12 +5,11 @@ use mathlib.Core.Path.{_≡_, _∙_}
 use mathlib.Core.Bool.{false}
 use mathlib.Core.List.{List}
 use native.Mathlib.Omega.{arith}
-use lib.ListN.{getD}
 use borrow.Author.Count.{below-more}
 use borrow.Author.Needs.{needs}
 use Rattle.sheet.specs.Laws.Lowest.{lowest-is}
 use Rattle.kernel.specs.Schedules.{tooEarly}
-use Rattle.sheet_expressions.specs.Map.{HoldsJust}
+use Rattle.sheet_expressions.specs.Map.{EachHoldsJust}
 use Rattle.schedule.proofs.Ordering.{Holds, none-named, one-more-named, early}
 use Rattle.schedule.proofs.first_too_early.Statement.{statement}
 use Rattle.schedule.proofs.first_too_early.Tie as tie
@@ -18,7 +17,7 @@ use Rattle.schedule.proofs.first_too_early.Tie as tie
 abbrev Inv-loop : tie.InvT-loop
 Inv-loop list wires reads named₀ p₀ named p =
     (p ≤ wires) × Holds list p (named .bits)
-    × ((readsOf : ℕ → List ℕ) → ((w : ℕ) → w < wires → HoldsJust (getD reads w 0) (readsOf w)) → (j : ℕ) → j < p
+    × ((readsOf : ℕ → List ℕ) → EachHoldsJust reads wires readsOf → (j : ℕ) → j < p
     → tooEarly list readsOf j ≡ false)
 
 abbrev μ-loop : tie.MeasureT-loop

@@ -1,13 +1,18 @@
--- What an expression reads, by its kind: what it names itself, and what those of its operands read that are read within the instant.
-use Prim.Native.Nat.{ℕ, _≤_, _<_}
+-- What an expression reads, by its kind: what it names itself, and what those of its operands read that are read within the instant;
+-- and an expression that has a type reads wires of the sheet alone.
+use Prim.Native.Nat.{ℕ, zero, suc, _≤_, _<_}
 use mathlib.Core.Path.{_≡_, refl, sym, ap}
 use mathlib.Core.List.{List, [], _∷_, _++_, append-nil}
+use mathlib.Core.Option.{some}
 use native.Mathlib.Omega.{arith}
-use lib.ListN.{length, take}
-use Rattle.sheet.specs.Data.{ValueType}
-use Rattle.sheet.specs.Expressions.{Expression}
+use lib.ListN.{length, take, getElem?}
+use Rattle.sheet.specs.Data.{ValueType, boolean}
+use Rattle.sheet.specs.Expressions.{Expression, constant, wire, input, unary, binary, choose, reset, pre, fby}
 use Rattle.sheet.specs.Kinds.{kindCount, countOf, readCountOf, operand, meaningOf}
 use Rattle.sheet.specs.Reads.{wiresRead, allRead, wiresNamed}
+use Rattle.sheet.specs.Lists.{Every, none, _and_}
+use Rattle.sheet.specs.Typing.{HasType, unaryType, operandType}
+use Rattle.sheet.specs.Laws.Lists.{never, every-join}
 use Rattle.sheet.specs.Laws.Readings.{every-kind, _▸_, end}
 
 reads-none : (os : List Expression) → [] ≡ allRead (take 0 os)
@@ -55,3 +60,22 @@ reads-of-kind = every-kind (λ k. (t : ValueType) (body : ℕ) (os : List Expres
 
     delayed : ValueType → ℕ → (os : List Expression) → length os ≡ 1 → [] ≡ allRead (take 0 os)
     delayed t b os e = reads-none os
+
+some-below : {A : Type 0} (xs : List A) (i : ℕ) {x : A} → getElem? xs i ≡ some x → i < length xs
+some-below [] i e = never (cc)
+some-below (y ∷ xs) zero e = omega arith
+some-below (y ∷ xs) (suc i) e = omega (arith, some-below xs i e)
+
+module _ (inputTypes wireTypes : List ValueType) where
+  pub typed-reads : (e : Expression) (t : ValueType) → HasType inputTypes wireTypes t e → Every (λ w. w < length wireTypes) (wiresRead e)
+  unfolding HasType wiresRead
+  typed-reads (constant d) t h = none
+  typed-reads (wire w) t h = some-below wireTypes w h and none
+  typed-reads (input i) t h = none
+  typed-reads (unary o a) t h = typed-reads a (unaryType o) (h .1)
+  typed-reads (binary o a b) t h = every-join (typed-reads a (operandType o) (h .1)) (typed-reads b (operandType o) (h .2))
+  typed-reads (choose o c a b) t h =
+      every-join (typed-reads c boolean (h .0)) (every-join (typed-reads a t (h .1)) (typed-reads b t (h .2)))
+  typed-reads (reset c a) t h = every-join (typed-reads c boolean (h .0)) (typed-reads a t (h .1))
+  typed-reads (pre d a) t h = none
+  typed-reads (fby u a b) t h = typed-reads a t (h .1)

@@ -1,7 +1,8 @@
 -- `start` meets its contract: the answers follow those of the check, and the cells that it noted are put.
 use mathlib.Core.Path.{sym, _∙_}
 use borrow.Author.Needs.{needs}
-use Rattle.sheet_start.proofs.Passing.{Passes, passes, stopped, start-stopped, start-passed}
+use Rattle.sheet.specs.Laws.Checked.{check-refused}
+use Rattle.sheet_start.proofs.Passing.{Passes, passes, start-stopped, start-passed}
 use Rattle.sheet_start.proofs.start.Statement.{statement}
 use Rattle.sheet_start.proofs.start.Tie as tie
 
@@ -31,7 +32,7 @@ start-cells-requires c κs = found (c .before .before) .noted
 returns : tie.Need-returns
 returns c =
     start-stopped _ _
-    (stopped _ _ _ (sym (c .before .before .before .check-map .ensures .0) ∙ c .before .why .given .1))
+    (check-refused _ (sym (c .before .before .before .check-map .ensures .0) ∙ c .before .why .given .1))
 
 same-length : tie.Need-same-length
 same-length c = search needs

@@ -1,5 +1,5 @@
 -- `Wires::none` meets its contract: no bit of 0 is 1.
-use Rattle.wires.proofs.Bits.{none-in}
+use Rattle.wires.specs.Laws.{none-in}
 use Rattle.wires.proofs.Wires.none.Statement.{statement}
 use Rattle.wires.proofs.Wires.none.Tie as tie
 

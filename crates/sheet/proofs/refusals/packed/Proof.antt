@@ -1,9 +1,9 @@
--- `packed` meets its contract: a number is at most 20, so that the sum fits. Assumes nothing.
+-- `packed` meets its contract: a number is at most 21, so that the sum fits. Assumes nothing.
 use native.Mathlib.Omega.{arith}
 use borrow.Author.Needs.{needs}
 use Rattle.sheet.specs.Laws.Refusals.{numbers-few}
-use Rattle.nuthatchbed.proofs.packed.Statement.{statement}
-use Rattle.nuthatchbed.proofs.packed.Tie as tie
+use Rattle.sheet.proofs.refusals.packed.Statement.{statement}
+use Rattle.sheet.proofs.refusals.packed.Tie as tie
 
 number-requires : tie.Need-number-requires
 number-requires c κs = search needs

@@ -1,0 +1,5 @@
+pub mod Making
+pub mod Queue
+pub mod Schedules
+pub mod Calls
+pub mod Cases

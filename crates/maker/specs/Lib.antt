@@ -1,0 +1,6 @@
+pub mod Reaching
+pub mod Making
+pub mod Cases
+pub mod Placing
+pub mod Queue
+pub mod Laws

@@ -1,2 +1,0 @@
--- What the proofs of the calls use.
-pub mod Answers

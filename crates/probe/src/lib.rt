@@ -1,0 +1,18 @@
+// The calls that the C library does not have, for the tests to reach from C; no part of what is delivered. Each returns a packed
+// number as those of the C library do. Rests on `maker` for the calls themselves.
+use maker::Made;
+use sheet::refusals;
+ghost use mathlib.Core.Path.{_≡_};
+ghost use Rattle.maker.specs.Making.{makerCall, packedMade};
+
+// The maker of a schedule: 0, or a refusal; the list gets the schedule.
+#[no_mangle]
+pub extern "C" fn probe_schedule(sheet: &[u8], list: &mut [u8]) -> u32
+    ensures { λ r. ⌜ r ≡ packedMade (makerCall (now (sheet .entry)) (now (list .entry)) .answer) ⌝ }
+    ensures { λ _. ⌜ now (list .exit) ≡ makerCall (now (sheet .entry)) (now (list .entry)) .list ⌝ }
+{
+    match maker::make(sheet, list) {
+        Made::Refused { why, place } => refusals::packed(why, place),
+        Made::Done => 0,
+    }
+}

@@ -1,0 +1,65 @@
+-- What the answer of the check says of a sheet's bytes: the refusal of their reading, or the sheet that they are, by its four counts.
+use Prim.Native.Nat.{ℕ, _≤_}
+use mathlib.Core.Path.{_≡_, refl, sym, _∙_}
+use mathlib.Core.List.{List}
+use native.Mathlib.Omega.{arith}
+use lib.ListN.{length}
+use Rattle.sheet.specs.Outcomes.{refusal, result}
+use Rattle.sheet.specs.Readings.{Reading, refused, got}
+use Rattle.sheet.specs.Sheets.{Sheet, sheetForms, readSheet, sheetOf, checkedOf, checkOf}
+use Rattle.sheet.specs.Laws.Headers.{SheetRead, sheet-view}
+use Rattle.sheet.specs.Laws.Lists.{never}
+use Rattle.sheet.specs.Laws.Typing.{read-passed, read-counted}
+use Rattle.sheet.specs.declared.Refusal.{Refusal}
+use Rattle.sheet.specs.declared.Checked.the-variants.{Refused, Passed}
+
+pub check-refused : (s : List ℕ) {why : Refusal} {place : ℕ} → checkOf s ≡ Refused why place → sheetOf s ≡ refusal why place
+unfolding sheetOf
+check-refused s {why} {place} = go (readSheet s) refl
+  where
+    go : (x : Reading Sheet) → readSheet s ≡ x → checkedOf x ≡ Refused why place → sheetOf s ≡ refusal why place
+    go (refused found at) q h = rw q (cc)
+    go (got sheet next count) q h = never (cc)
+
+-- a sheet that passes the check with these counts
+pub record CheckPassed (s : List ℕ) (inputs wires outputs cells : ℕ) : Type 0 where
+  pub sheet : Sheet
+  pub outcome : sheetOf s ≡ result sheet
+  pub inputs-are : length (sheet .inputTypes) ≡ inputs
+  pub wires-are : length (sheet .wireTypes) ≡ wires
+  pub outputs-are : length (sheet .outputs) ≡ outputs
+  pub cells-are : length (sheetForms sheet) ≡ cells
+  pub few-inputs : inputs ≤ 16
+  pub few-wires : wires ≤ 64
+  pub few-outputs : outputs ≤ 16
+  pub few-cells : cells ≤ 64
+  pub end : ℕ
+  pub view : SheetRead s sheet end cells
+
+pub check-passed : (s : List ℕ) (i w o k : ℕ) → checkOf s ≡ Passed i w o k → CheckPassed s i w o k
+unfolding sheetOf
+check-passed s i w o k = go (readSheet s) refl
+  where
+    go : (x : Reading Sheet) → readSheet s ≡ x → checkedOf x ≡ Passed i w o k → CheckPassed s i w o k
+    go (refused why place) q h = never (cc)
+    go (got sheet next count) q h =
+        let passed = read-passed s q in
+        let inputs : length (sheet .inputTypes) ≡ i = cc in
+        let wires : length (sheet .wireTypes) ≡ w = cc in
+        let outputs : length (sheet .outputs) ≡ o = cc in
+        let same : count ≡ k = cc in
+        let cells : length (sheetForms sheet) ≡ k = sym (read-counted s q) ∙ same in
+        record {
+          sheet = sheet;
+          outcome = rw q;
+          inputs-are = inputs;
+          wires-are = wires;
+          outputs-are = outputs;
+          cells-are = cells;
+          few-inputs = omega (arith, passed .few-inputs);
+          few-wires = omega (arith, passed .same-length, passed .few-wires);
+          few-outputs = omega (arith, passed .few-outputs);
+          few-cells = omega (arith, passed .counted, passed .few-cells);
+          end = next;
+          view = rw same at (sheet-view s q);
+        }

@@ -1,0 +1,15 @@
+/* The calls of the library that C is not given, as the tests reach them: the archive libprobe.a. It is no part of what is delivered, only
+ * the tests link it; the delivered header has its four calls and no more. Later requests add functions here. Rests on nothing.
+ *
+ * Buffers and answers are as include/nuthatchbed.h says.
+ */
+#ifndef PROBE_H
+#define PROBE_H
+
+#include <stddef.h>
+#include <stdint.h>
+
+/* Makes a schedule: fills a list of one byte for each wire. Answers 0, or a refusal 1 to 11, 17 or 21. */
+uint32_t probe_schedule(const uint8_t *sheet, size_t sheet_length, uint8_t *list, size_t list_length);
+
+#endif

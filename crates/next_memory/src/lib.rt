@@ -1,6 +1,6 @@
 // The next memory: all wires advance, one after the other, in one memory.
 // Rests on `advance` of `storing` for one expression, and on the map for where it stands.
-use sheet_check::map;
+use sheet_expressions::map;
 use storing::advance;
 ghost use mathlib.Core.Path.{_≡_};
 ghost use mathlib.Core.Bool.{false};

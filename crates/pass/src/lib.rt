@@ -1,6 +1,6 @@
 // The pass along a list of wires, each of which is worked out once.
 // Rests on `expression` for a wire's value, on `rounds` for the set and the words, and on the map for where it stands.
-use sheet_check::map;
+use sheet_expressions::map;
 use wires::Wires;
 ghost use lib.ListN.{length};
 ghost use Rattle.leaves.specs.Words.{inputWords};

@@ -3,6 +3,7 @@ use Prim.Native.Nat.{ℕ, suc, _+_, _≤_, _<_}
 use mathlib.Core.Path.{subst, _≡_, refl, sym, ap, _∙_}
 use mathlib.Core.Bool.{Bool, true, false, not, _&&_, cond}
 use mathlib.Core.List.{List, [], _∷_}
+use native.Mathlib.Nat.{lt-of-not-le}
 use native.Mathlib.Numerals.{add-one}
 use native.Mathlib.Omega.{arith}
 use lib.Dec.{ltb}
@@ -10,14 +11,14 @@ use lib.ListN.{length, getD, length-replicate}
 use borrow.Author.Count.{below-more}
 use borrow.Author.Tests.{ltb-true, ltb-false}
 use Rattle.wires.specs.Sets.{member, tally}
-use Rattle.wires.specs.Laws.{tally-beyond, tally-front}
+use Rattle.wires.specs.Laws.{tally-beyond, tally-front, tally-grows}
 use Rattle.sheet.specs.Laws.Lists.{never}
 use Rattle.kernel.specs.Order.{_⊑*_, valueAt, knownCount}
 use Rattle.kernel.specs.Order as Order
 use Rattle.kernel.specs.Systems as System
 use Rattle.kernel.specs.Instants.{wireCount, rounds, finished}
 use Rattle.kernel.specs.Laws.Order.{unknown-at}
-use Rattle.kernel.specs.Laws.Counting.{count-same, count-grows}
+use Rattle.kernel.specs.Laws.Counting.{count-same}
 use Rattle.kernel.specs.Laws.Rounds.{climbs, rounds-unique}
 use Rattle.kernel.specs.Laws.Due.{NoneDue, first-whole, due-whole}
 use Rattle.kernel.specs.Laws.Instants.{round-monotone}
@@ -130,23 +131,30 @@ module _ {s memory row types places firsts reads : List ℕ} (run : RunningReads
     sizes : length (after k) ≡ length (after (suc k))
     sizes = h .holds .size ∙ sym (next .size)
 
-    pub more-known : (tally (member grown) 64 ≡ tally (member bits) 64 → ⊥) → tally (member bits) 64 < tally (member grown) 64
-    more-known differ =
-        omega (
-          arith,
-          differ,
-          held-count (h .holds) (r .few),
-          held-count next (r .few),
-          count-grows (after k) (after (suc k)) sizes (ascends k),
-        )
+    -- the round adds no wire just where the values after it are those before it
+    abbrev NoneAdded : Type 0
+    NoneAdded = (w : ℕ) → member grown w ≡ true → member bits w ≡ true
 
-    same-values : tally (member grown) 64 ≡ tally (member bits) 64 → after k ≡ after (suc k)
-    same-values e =
+    none-added : after k ≡ after (suc k) → NoneAdded
+    none-added e w m = go (member bits w) refl
+      where
+        go : (t : Bool) → member bits w ≡ t → member bits w ≡ true
+        go true t = t
+        go false t =
+            let same : valueAt (after (suc k)) w ≡ valueAt (after k) w = ap (λ (xs : List Value). valueAt xs w) (sym e) in
+            never (cc (unknown-out next w (same ∙ out-unknown (h .holds) w t)))
+
+    unchanged : NoneAdded → after k ≡ after (suc k)
+    unchanged none =
+        let fewer = tally-grows (member grown) (member bits) 64 (λ w l. none w) in
         count-same (after k) (after (suc k)) sizes (ascends k)
-        (omega (arith, held-count (h .holds) (r .few), held-count next (r .few)))
+        (omega (arith, fewer, held-count (h .holds) (r .few), held-count next (r .few)))
 
-    unchanged-same : after k ≡ after (suc k) → tally (member grown) 64 ≡ tally (member bits) 64
-    unchanged-same e = held-count next (r .few) ∙ ap knownCount (sym e) ∙ sym (held-count (h .holds) (r .few))
+    pub more-known : (NoneAdded → ⊥) → tally (member bits) 64 < tally (member grown) 64
+    more-known some =
+        let more : knownCount (after k) < knownCount (after (suc k)) =
+        lt-of-not-le (λ l. some (none-added (count-same (after k) (after (suc k)) sizes (ascends k) l))) in
+        omega (arith, more, held-count (h .holds) (r .few), held-count next (r .few))
 
     -- The wires that are not due, by those that are new.
     module _ {news over : ℕ} (new-are : (x : ℕ) → member news x ≡ (member grown x && not (member bits x)))
@@ -169,22 +177,22 @@ module _ {s memory row types places firsts reads : List ℕ} (run : RunningReads
           go true l = not-due .each w (ltb-true w (length types) l) .whereKnown e
           go false l = never (cc (next .beyond w (ltb-false w (length types) l)))
 
-      pub one-more : (tally (member grown) 64 ≡ tally (member bits) 64 → ⊥) → Rounded (k + 1) grown over new
+      pub one-more : (NoneAdded → ⊥) → Rounded (k + 1) grown over new
       unfolding System.after
-      one-more differ =
+      one-more some =
           let given = r .given in
           let whole = due-whole (given .sheet) (given .inputs) (given .memory) (member over) (after k) (ascends k) none-due in
           record {
             holds = rw add-one next;
-            changed = below-more (λ j. after j ≡ after (suc j) → ⊥) k (h .changed) (λ e. differ (unchanged-same e));
+            changed = below-more (λ j. after j ≡ after (suc j) → ⊥) k (h .changed) (λ e. some (none-added e));
             known = known-over;
             whole = rw add-one whole;
           }
 
-    pub ended : tally (member grown) 64 ≡ tally (member bits) 64
+    pub ended : NoneAdded
         → Holds (length types) row grown new (finished (r .given .sheet) (r .given .inputs) (r .given .memory))
         × (k + 1 ≡ rounds (r .given .sheet) (r .given .inputs) (r .given .memory))
     unfolding finished rounds System.finished
-    ended e =
-        let count = rounds-unique (wireCount (r .given .sheet)) (roundOf r) monotone k (same-values e) (h .changed) in
+    ended none =
+        let count = rounds-unique (wireCount (r .given .sheet)) (roundOf r) monotone k (unchanged none) (h .changed) in
         (rw count next, rw add-one (sym count))

@@ -1,51 +1,46 @@
--- How the wires that are not due are gathered: those that were looked at are passed over or due, and the others are as they were known.
-use Prim.Native.Nat.{ℕ, _+_, _≤_}
-use mathlib.Core.Path.{_≡_, refl, ap, _∙_}
-use mathlib.Core.Logic.{_≢_}
-use mathlib.Core.Bool.{Bool, true, or-true}
+-- How the wires that read none of the new ones are gathered, from the highest wire down.
+use Prim.Native.Nat.{ℕ, zero, suc, _+_, _≤_, _<_}
+use mathlib.Core.Path.{_≡_, sym, _∙_}
+use mathlib.Core.Bool.{Bool, true, false, not, _||_, or-true}
 use mathlib.Core.List.{List}
+use native.Mathlib.Nat.{add-zero, zero-add, add-suc, suc-add}
 use native.Mathlib.Omega.{arith}
 use lib.ListN.{getD}
-use borrow.Author.Count.{below-more}
-use borrow.Author.Tests.{eq-eqb}
-use Rattle.wires.specs.Sets.{member}
-use Rattle.sheet.specs.Laws.Lists.{never}
-use Rattle.rounds.specs.Due.{PassesOver, NotDue, AddedUnlessDue, due, added}
-use Rattle.rounds.proofs.Rounding.{with-other}
+use borrow.Author.Tests.{not-true}
+use Rattle.wires.specs.Sets.{member, Apart, Raised, TestsMeeting}
+use Rattle.rounds.specs.Due.{PassesOver, NotDue}
 
-module _ {w reads news bits after : ℕ} where
-  other-same : AddedUnlessDue w reads news bits after → (x : ℕ) → x ≢ w → member after x ≡ member bits x
-  other-same (due d e) x other = rw e
-  other-same (added p m) x other = with-other w bits after m x other
+-- whether a wire that reads these reads none of the new ones
+pub record Resting (reads news : ℕ) (resting : Bool) : Type 0 where
+  pub apart : resting ≡ true → Apart reads news
+  pub only : Apart reads news → resting ≡ true
 
-  passes-over : {known : Bool} → AddedUnlessDue w reads news bits after → member bits w ≡ known
-      → PassesOver known reads news (member after w)
-  passes-over (due d e) was = record {
-    whereKnown = λ k. ap (λ (x : ℕ). member x w) e ∙ was ∙ k;
-    whereApart = λ p. absurd (d p);
-    only = λ i k. never (cc);
-  }
-  passes-over (added p m) was =
-      let here : member after w ≡ true = m w ∙ rw (eq-eqb w w refl) (or-true (member bits w)) in
-      record { whereKnown = λ k. here; whereApart = λ p. here; only = λ i k. p }
+-- of the first n wires those from w on were looked at; the lowest of them is wire 0 of the set
+pub record Gathered (reads : List ℕ) (news n w bits : ℕ) : Type 0 where
+  pub each : (k : ℕ) → w + k < n → Resting (getD reads (w + k) 0) news (member bits k)
 
--- the first w wires were looked at
-pub record Gathered (reads : List ℕ) (known news w bits : ℕ) : Type 0 where
-  pub behind : NotDue reads known news w bits
-  pub ahead : (k : ℕ) → w ≤ k → member bits k ≡ member known k
+module _ {reads : List ℕ} {news n : ℕ} where
+  pub none-gathered : {bits : ℕ} → Gathered reads news n n bits
+  none-gathered = record { each = λ k l. absurd (omega arith) }
 
-module _ {reads : List ℕ} {known news : ℕ} where
-  pub none-gathered : Gathered reads known news 0 known
-  none-gathered = record { behind = record { each = λ w l. absurd (omega arith) }; ahead = λ k l. refl }
+  pub one-gathered : {w bits after : ℕ} {met : Bool} → n ≤ 64 → Gathered reads news n (suc w) bits
+      → TestsMeeting (getD reads w 0) news met → Raised bits (not met) after → Gathered reads news n w after
+  one-gathered {w} {bits} {after} {met} few g test raised = record { each = one }
+    where
+      one : (k : ℕ) → w + k < n → Resting (getD reads (w + k) 0) news (member after k)
+      one zero l =
+          rw (add-zero, raised .first) (record { apart = λ e. test .apart (not-true met e); only = λ p. rw (test .only p) })
+      one (suc k) l = rw (add-suc, ← suc-add, raised .above k (omega arith)) (g .each k (omega arith))
 
-  pub one-gathered : {w bits after : ℕ} → Gathered reads known news w bits → AddedUnlessDue w (getD reads w 0) news bits after
-      → Gathered reads known news (w + 1) after
-  one-gathered {w} {bits} {after} g a =
-      record {
-        behind = record {
-          each = below-more (λ x. PassesOver (member known x) (getD reads x 0) news (member after x)) w
-              (λ x l. rw (other-same a x (λ q. omega arith)) (g .behind .each x l))
-              (passes-over a (g .ahead w (omega arith)));
-        };
-        ahead = λ k l. other-same a k (λ q. omega arith) ∙ g .ahead k (omega arith);
-      }
+  pub all-gathered : {known bits passed : ℕ} → Gathered reads news n 0 bits
+      → ((k : ℕ) → member passed k ≡ (member known k || member bits k)) → NotDue reads known news n passed
+  all-gathered {known} {bits} {passed} g joined = record { each = one }
+    where
+      one : (w : ℕ) → w < n → PassesOver (member known w) (getD reads w 0) news (member passed w)
+      one w l =
+          let u : Resting (getD reads w 0) news (member bits w) = rw zero-add at (g .each w (omega arith)) in
+          record {
+            whereKnown = λ k. joined w ∙ rw k;
+            whereApart = λ p. joined w ∙ rw (u .only p) (or-true (member known w));
+            only = λ i k. u .apart (rw k at (sym (joined w) ∙ i));
+          }

@@ -1,9 +1,8 @@
 -- Which wires the next round passes over, by the sets of the wires that each wire reads: all but those that are due.
 use Prim.Native.Nat.{ℕ, _<_}
 use mathlib.Core.Path.{_≡_}
-use mathlib.Core.Bool.{Bool, true, false, _||_}
+use mathlib.Core.Bool.{Bool, true, false}
 use mathlib.Core.List.{List}
-use lib.Dec.{eqb}
 use lib.ListN.{getD}
 use Rattle.wires.specs.Sets.{member, Apart}
 
@@ -16,8 +15,3 @@ pub record PassesOver (known : Bool) (reads news : ℕ) (passed : Bool) : Type 0
 -- the set holds, of the first n wires, just those that are passed over; what it holds beyond them is free: no round goes there
 pub record NotDue (reads : List ℕ) (known news n bits : ℕ) : Type 0 where
   pub each : (w : ℕ) → w < n → PassesOver (member known w) (getD reads w 0) news (member bits w)
-
--- wire w, with these reads, was added to a set unless it is due, which it is where it reads a new wire
-pub data AddedUnlessDue (w reads news bits : ℕ) : (after : ℕ) → Type 0 where
-  due : {after : ℕ} → (Apart reads news → ⊥) → after ≡ bits → AddedUnlessDue w reads news bits after
-  added : {after : ℕ} → Apart reads news → ((k : ℕ) → member after k ≡ (member bits k || eqb k w)) → AddedUnlessDue w reads news bits after

@@ -2,7 +2,7 @@
 // Rests on `expression` for the value of one expression and on `wires` for the set of known wires.
 use kernel::Value;
 use sheet::data;
-use sheet_check::map;
+use sheet_expressions::map;
 use wires::Wires;
 
 pub mod due;
@@ -94,7 +94,7 @@ pub fn finish(
     loop {
         let grown = round(sheet, memory, types, places, firsts, known, passed, words);
         let made = rounds + 1;
-        if grown.count() == known.count() {
+        if grown.within(known) {
             return Finished {
                 known: grown,
                 rounds: made,

@@ -1,7 +1,5 @@
 // The check of a sheet, from its first byte on: its length, the header's three sections, one expression for each wire; and the map
 // that it draws on the way. Rests on `sheet_header`, on `sheet_expressions` and on `sheet_names`.
-pub mod map;
-
 use sheet::Checked;
 use sheet::Read;
 use sheet::Refusal;

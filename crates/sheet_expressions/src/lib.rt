@@ -1,5 +1,7 @@
 // The expressions of a sheet: an expression's own bytes, then its operands, one level deeper; on the way cells are noted and reads
 // gathered. Rests on `sheet_own` for the own bytes, and on `sheet` for the table of kinds.
+pub mod map;
+
 use sheet::Read;
 use sheet::Refusal;
 use sheet::kinds;

@@ -7,12 +7,13 @@ use native.Mathlib.Nat.{pow-suc, zero-lt-suc, lt-of-lt-of-le, one-mul}
 use native.Mathlib.Numerals.{one-add}
 use native.Mathlib.Omega.{arith}
 use lib.Dec.{eqb, ltb, eqb·suc-suc, eqb·zero-suc, eqb·suc-zero, lit<}
-use lib.Bits.{bitOr, bitAnd, or-shr, or-mod, or-lt, and-shr, and-mod, and-lt, and-mask}
+use lib.Bits.{bitOr, bitAnd, or-shifted, or-shr, or-mod, or-lt, and-shr, and-mod, and-lt, and-mask}
 use lib.Count.{ones, ones-cat, ones-ones, trailingZeros, under, trailing-le}
-use lib.Pow.{pow-pos, pow-mono, pow-lt, shr-shr, mod-pow-add}
+use mir.Val.{boolByte}
+use lib.Pow.{pow-pos, pow-mono, pow-lt, shr-shr, mod-pow-add, field, mod-mod-pow}
 use borrow.Author.Tests.{eqb-true, eq-eqb, ne-eqb, ltb-true, ltb-false, not-false, not-true}
 use Rattle.wires.specs.Laws.{none-in}
-use Rattle.wires.specs.Sets.{member, tally, LowestMissing, LowestPresent, TestsMeeting, TestsWithin}
+use Rattle.wires.specs.Sets.{member, tally, Raised, LowestMissing, LowestPresent, TestsMeeting, TestsWithin}
 
 -- one digit further up is one digit of the half
 half : (n k : ℕ) → n / 2 ^ suc k ≡ n / 2 / 2 ^ k
@@ -81,6 +82,34 @@ member-suc n k = rw half
 
 halves : (k n : ℕ) → n < 2 ^ suc k → n / 2 < 2 ^ k
 halves k n h = let l : n < 2 ^ k * 2 = rw pow-suc at h in omega arith
+
+-- Every wire one up: twice the number, of which 64 digits are kept, and the new lowest digit.
+
+kept-digit : (i k n : ℕ) → member (n % 2 ^ (i + 1 + k)) k ≡ member n k
+unfolding member
+kept-digit i k n = ap (λ (x : ℕ). eqb (x % 2) 1) (field n (i + 1) k) ∙ ap (λ (x : ℕ). eqb x 1) (mod-mod-pow (n / 2 ^ k) i 1)
+
+digit-is : (lowest : Bool) → eqb (boolByte lowest) 1 ≡ lowest
+digit-is true = refl
+digit-is false = refl
+
+digit-small : (lowest : Bool) → boolByte lowest < 2 ^ 1
+digit-small true = omega arith
+digit-small false = omega arith
+
+pub raised-is : (n : ℕ) (lowest : Bool) → Raised n lowest (bitOr (n * 2 ^ 1 % 2 ^ 64) (boolByte lowest))
+raised-is n lowest =
+    let kept : n * 2 ^ 1 % 2 ^ 64 ≡ n % 2 ^ 63 * 2 ^ 1 = omega arith in
+    let small = digit-small lowest in
+    let low : (n % 2 ^ 63 * 2 ^ 1 + boolByte lowest) % 2 ≡ boolByte lowest = omega (arith, small) in
+    let high : (n % 2 ^ 63 * 2 ^ 1 + boolByte lowest) / 2 ≡ n % 2 ^ 63 = omega (arith, small) in
+    rw (kept, or-shifted (n % 2 ^ 63) 1 (boolByte lowest) small)
+    (record {
+      first = member-zero _ ∙ rw low (digit-is lowest);
+      above = λ k h.
+          let all : 62 - k + 1 + k ≡ 63 = omega arith in
+          member-suc _ k ∙ rw high (ap (λ (j : ℕ). member (n % 2 ^ j) k) (sym all) ∙ kept-digit (62 - k) k n);
+    })
 
 -- A set within another: joined to it, it adds nothing.
 

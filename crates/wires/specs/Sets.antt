@@ -8,6 +8,11 @@ use lib.Dec.{eqb}
 unfoldable pub member : ℕ → ℕ → Bool
 member n k = eqb (n / 2 ^ k % 2) 1
 
+-- the set whose bits are m is the one whose bits are n with every wire moved one up, as far as 64 wires go, and wire 0 as told
+pub record Raised (n : ℕ) (lowest : Bool) (m : ℕ) : Type 0 where
+  pub first : member m 0 ≡ lowest
+  pub above : (k : ℕ) → k < 63 → member m (suc k) ≡ member n k
+
 -- r says whether every wire of the set whose bits are n is in the one whose bits are m
 pub record TestsWithin (n m : ℕ) (r : Bool) : Type 0 where
   pub all : r ≡ true → (k : ℕ) → member n k ≡ true → member m k ≡ true

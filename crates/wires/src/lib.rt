@@ -3,7 +3,7 @@ ghost use mathlib.Core.Path.{_≡_};
 ghost use Prim.Native.Nat.{ℕ, _<_};
 ghost use mathlib.Core.Bool.{_&&_, _||_, not, false};
 ghost use lib.Dec.{eqb};
-ghost use Rattle.wires.specs.Sets.{member, tally, LowestMissing, LowestPresent, TestsMeeting, TestsWithin};
+ghost use Rattle.wires.specs.Sets.{member, tally, Raised, LowestMissing, LowestPresent, TestsMeeting, TestsWithin};
 
 // A set of wires, each below 64.
 pub struct Wires {
@@ -33,6 +33,15 @@ impl Wires {
     {
         Wires {
             bits: self.bits | (1 << wire),
+        }
+    }
+
+    // The set with every wire moved one up, the 64th out of it, and wire 0 in it where `lowest` says so.
+    pub fn raised(self, lowest: bool) -> Wires
+        ensures { λ r. ⌜ Raised (self .bits) lowest (r .bits) ⌝ }
+    {
+        Wires {
+            bits: (self.bits << 1) | (lowest as u64),
         }
     }
 

@@ -1,7 +1,8 @@
 -- `finish` meets its contract. The loop's invariant: so many rounds were made, each of which changed something, and the next one comes
 -- to the same whether or not it goes over the wires that it is to pass over.
-use Prim.Native.Nat.{_-_, _≤_, _<_}
+use Prim.Native.Nat.{ℕ, _-_, _≤_, _<_}
 use mathlib.Core.Path.{_≡_, refl, sym, _∙_}
+use mathlib.Core.Bool.{true, true≢false}
 use native.Mathlib.Omega.{arith}
 use Rattle.wires.specs.Sets.{member, tally}
 use Rattle.wires.specs.Laws.{tally-bound}
@@ -21,19 +22,19 @@ abbrev μ-loop : tie.MeasureT-loop
 μ-loop sheet memory types places firsts reads words₀ known₀ passed₀ rounds₀ words known passed rounds =
     64 - tally (member (known .bits)) 64
 
--- the counts of the two sets differ, so that the round knows more
-differ : (c : tie.Else1 Inv-loop μ-loop)
-    → tally (member (c .before .before .before .round .result .bits)) 64
-    ≡ tally (member (c .before .before .before .before .before .loop .known .bits)) 64 → ⊥
-differ c e = c .if1 .left (c .before .before .count .ensures ∙ e ∙ sym (c .before .count2 .ensures))
+-- the round added a wire
+added : (c : tie.Else1 Inv-loop μ-loop)
+    → ((w : ℕ) → member (c .before .before .round .result .bits) w ≡ true
+    → member (c .before .before .before .before .loop .known .bits) w ≡ true) → ⊥
+added c none = true≢false (sym (c .before .within .ensures .only none) ∙ c .if1 .left)
 
 grew : (c : tie.Else1 Inv-loop μ-loop)
-    → tally (member (c .before .before .before .before .before .loop .known .bits)) 64
-    < tally (member (c .before .before .before .round .result .bits)) 64
+    → tally (member (c .before .before .before .before .loop .known .bits)) 64
+    < tally (member (c .before .before .round .result .bits)) 64
 grew c =
-    let loop = c .before .before .before .before .before in
+    let loop = c .before .before .before .before in
     let run = loop .before .before .before .before .before .before .pre .0 in
-    more-known run (loop .loop .inv .1 run) (c .before .before .before .round .ensures) (differ c)
+    more-known run (loop .loop .inv .1 run) (c .before .before .round .ensures) (added c)
 
 none-requires : tie.Need-none-requires Inv-loop μ-loop
 none-requires c κs = tt
@@ -54,38 +55,34 @@ round-requires c κs =
 add-made : tie.Need-add-made Inv-loop μ-loop
 add-made c = let l = c .before .before .loop in omega (arith, l .inv .0, tally-bound (member (l .known .bits)) 64)
 
-count-requires : tie.Need-count-requires Inv-loop μ-loop
-count-requires c κs = tt
-
-count-requires-2 : tie.Need-count-requires-2 Inv-loop μ-loop
-count-requires-2 c κs = tt
+within-requires : tie.Need-within-requires Inv-loop μ-loop
+within-requires c κs = tt
 
 returns : tie.Need-returns Inv-loop μ-loop
 returns c = λ run.
-    ended run (c .before .before .before .before .before .loop .inv .1 run)
-    (c .before .before .before .round .ensures)
-    (sym (c .before .before .count .ensures) ∙ c .if1 .taken ∙ c .before .count2 .ensures)
+    ended run (c .before .before .before .before .loop .inv .1 run) (c .before .before .round .ensures)
+    (c .before .within .ensures .all (c .if1 .taken))
 
 minus-requires : tie.Need-minus-requires Inv-loop μ-loop
 minus-requires c κs = tt
 
 not-due-requires : tie.Need-not-due-requires Inv-loop μ-loop
 not-due-requires c κs =
-    let loop = c .before .before .before .before .before .before in
+    let loop = c .before .before .before .before .before in
     loop .before .before .before .before .before .before .pre .0 .running .few
 
 loop-less : tie.Need-loop-less Inv-loop μ-loop
 loop-less c =
     let left = c .before .before in
-    omega (arith, grew left, tally-bound (member (left .before .before .before .round .result .bits)) 64)
+    omega (arith, grew left, tally-bound (member (left .before .before .round .result .bits)) 64)
 
 loop-again : tie.Need-loop-again Inv-loop μ-loop
 loop-again c =
     let left = c .before .before in
-    let made = left .before .before .before in
+    let made = left .before .before in
     let l = made .before .before .loop in (
       omega (arith, grew left, l .inv .0),
-      λ run. one-more run (l .inv .1 run) (made .round .ensures) (c .before .minus .ensures) (c .not-due .ensures) (differ left),
+      λ run. one-more run (l .inv .1 run) (made .round .ensures) (c .before .minus .ensures) (c .not-due .ensures) (added left),
     )
 
 pub finish-spec : {M : Type 1} → statement M
@@ -99,8 +96,7 @@ finish-spec =
     loop-holds
     round-requires
     add-made
-    count-requires
-    count-requires-2
+    within-requires
     returns
     minus-requires
     not-due-requires

@@ -1,41 +1,59 @@
--- `not_due` meets its contract. The loop's invariant: of the first w wires, the set holds just those that are passed over.
-use Prim.Native.Nat.{_-_, _≤_}
-use mathlib.Core.Path.{_≡_}
+-- `not_due` meets its contract. The loop's invariant: from wire w on it is known which wires read none of the new ones.
+use Prim.Native.Nat.{ℕ, suc, _-_, _≤_}
+use mathlib.Core.Path.{_≡_, subst}
 use native.Mathlib.Omega.{arith}
 use borrow.Author.Needs.{needs}
-use Rattle.rounds.proofs.Passing.{Gathered, none-gathered, one-gathered}
+use Rattle.rounds.proofs.Passing.{Gathered, none-gathered, one-gathered, all-gathered}
 use Rattle.rounds.proofs.due.not_due.Statement.{statement}
 use Rattle.rounds.proofs.due.not_due.Tie as tie
 
 abbrev Inv-loop : tie.InvT-loop
-Inv-loop reads news wires passed₀ w₀ passed w = (w ≤ wires) × Gathered reads (passed₀ .bits) (news .bits) w (passed .bits)
+Inv-loop reads known news wires resting₀ w₀ resting w = (w ≤ wires) × Gathered reads (news .bits) wires w (resting .bits)
 
 abbrev μ-loop : tie.MeasureT-loop
-μ-loop reads news wires passed₀ w₀ passed w = wires - w
+μ-loop reads known news wires resting₀ w₀ resting w = w
+
+none-requires : tie.Need-none-requires Inv-loop μ-loop
+none-requires c κs = tt
 
 loop-holds : tie.Need-loop-holds Inv-loop μ-loop
 loop-holds c = (omega arith, none-gathered)
 
-mul-t8 : tie.Need-mul-t8 Inv-loop μ-loop
-mul-t8 c = search needs
+sub-w : tie.Need-sub-w Inv-loop μ-loop
+sub-w c = search needs
 
-element-copy-out-t11 : tie.Need-element-copy-out-t11 Inv-loop μ-loop
-element-copy-out-t11 c = omega arith
+mul-t9 : tie.Need-mul-t9 Inv-loop μ-loop
+mul-t9 c = search needs
 
-unless-due-requires : tie.Need-unless-due-requires Inv-loop μ-loop
-unless-due-requires c κs = omega arith
+element-copy-out-t12 : tie.Need-element-copy-out-t12 Inv-loop μ-loop
+element-copy-out-t12 c = omega arith
 
-add-w : tie.Need-add-w Inv-loop μ-loop
-add-w c = omega arith
+meets-requires : tie.Need-meets-requires Inv-loop μ-loop
+meets-requires c κs = tt
+
+raised-requires : tie.Need-raised-requires Inv-loop μ-loop
+raised-requires c κs = tt
 
 loop-less : tie.Need-loop-less Inv-loop μ-loop
 loop-less c = omega arith
 
 loop-again : tie.Need-loop-again Inv-loop μ-loop
-loop-again c = (omega arith, one-gathered (c .before .before .before .loop .inv .1) (c .unless-due .ensures))
+loop-again c =
+    let start = c .before .before .before .before .before .before in
+    let l = c .before .before .before .before .loop in
+    let lower : l .w ≡ suc (l .w - 1) = omega arith in
+    let looked = subst (λ (w : ℕ). Gathered (start .args .reads .now) (start .args .news .bits) (start .args .wires) w (l .resting .bits))
+    lower (l .inv .1) in
+    (omega arith, one-gathered (start .pre) looked (c .before .meets .ensures) (c .raised .ensures))
+
+joined-requires : tie.Need-joined-requires Inv-loop μ-loop
+joined-requires c κs = tt
 
 returns : tie.Need-returns Inv-loop μ-loop
-returns c = let e : c .before .loop .w ≡ c .before .before .args .wires = omega arith in rw e at (c .before .loop .inv .1 .behind)
+returns c =
+    let l = c .before .before .loop in
+    let lowest : l .w ≡ 0 = omega arith in
+    all-gathered (rw lowest at (l .inv .1)) (c .joined .ensures)
 
 pub not-due-spec : {M : Type 1} → statement M
 not-due-spec =
@@ -43,11 +61,14 @@ not-due-spec =
     (tie.spec
     Inv-loop
     μ-loop
+    none-requires
     loop-holds
-    mul-t8
-    element-copy-out-t11
-    unless-due-requires
-    add-w
+    sub-w
+    mul-t9
+    element-copy-out-t12
+    meets-requires
+    raised-requires
     loop-less
     loop-again
+    joined-requires
     returns)

@@ -8,6 +8,9 @@
  *
  * Every call takes buffers of any contents and any length, and answers one number: on a refusal the refusal's number times 65,536
  * plus its place, and then every buffer holds what it held before; else what is said at the call, which is below 65,536.
+ *
+ * A number is 32 bits in two's complement. Add, subtract and negate stop at its ends, 2147483647 and -2147483648: a full register stays
+ * full.
  */
 #ifndef NUTHATCHBED_H
 #define NUTHATCHBED_H

@@ -1,4 +1,4 @@
-/* The worked cases A to L of document 01. Rests on the sheets of A to L. */
+/* The worked cases A to L of document 01, J and K with the numbers of document 02's K2. Rests on the sheets of A to L. */
 #include "cases/rows.h"
 #include "cases/sheets.h"
 
@@ -117,13 +117,13 @@ static const struct row rows[] = {
      .schedule = BYTES(0), .memory_after = BYTES(CELL(1, 20)), .output_after = BYTES(NUMBER(0))},
 
     {.name = "J: rounds", .call = call_rounds, .sheet = BYTES(SHEET_J), .output_length = 4,
-     .answer = 2, .output_after = BYTES(LEAST_NUMBER)},
+     .answer = 2, .output_after = BYTES(GREATEST_NUMBER)},
     {.name = "J: along 0", .call = call_scheduled, .sheet = BYTES(SHEET_J), .output_length = 4,
-     .schedule = BYTES(0), .output_after = BYTES(LEAST_NUMBER)},
+     .schedule = BYTES(0), .output_after = BYTES(GREATEST_NUMBER)},
     {.name = "K: rounds", .call = call_rounds, .sheet = BYTES(SHEET_K), .output_length = 4,
-     .answer = 2, .output_after = BYTES(LEAST_NUMBER)},
+     .answer = 2, .output_after = BYTES(GREATEST_NUMBER)},
     {.name = "K: along 0", .call = call_scheduled, .sheet = BYTES(SHEET_K), .output_length = 4,
-     .schedule = BYTES(0), .output_after = BYTES(LEAST_NUMBER)},
+     .schedule = BYTES(0), .output_after = BYTES(GREATEST_NUMBER)},
 
     {.name = "L: c true, x 5", .call = call_rounds, .sheet = BYTES(SHEET_L),
      .input = BYTES(NUMBER(1), NUMBER(5)), .output_length = 4, .answer = 6,

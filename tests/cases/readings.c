@@ -1,6 +1,4 @@
-/* Readings of the rules that easily go wrong: resets, cells in arms that run or do not, reads, arithmetic at the ends. Rests on its
- * own sheets.
- */
+/* Readings of the rules that easily go wrong: resets, cells in arms that run or do not, reads, logic. Rests on its own sheets. */
 #include "cases/rows.h"
 
 /* Reset every input 0 of reset every input 1 of pre 7 (wire 0 + 1). */
@@ -33,9 +31,6 @@
         0, 0, 0
 /* Pre 1 of ((wire 0) fby 2): the left side is under the pre, so no reading. */
 #define LEFT_UNDER_PRE 0, 1, 1, 1, 0, 16, 1, 0, 0, 0, 17, 2, 0, 1, 2, 0, 0, 0
-/* Inputs x and y; wires: x below y, x equals y, x - y, -x. */
-#define ARITHMETIC                                                                             \
-    2, 1, 1, 4, 0, 0, 1, 1, 4, 0, 1, 2, 3, 10, 3, 0, 3, 1, 11, 3, 0, 3, 1, 9, 3, 0, 3, 1, 5, 3, 0
 /* Inputs a and b; wires: a and b, a or b, not a. */
 #define LOGIC 2, 0, 0, 3, 0, 0, 0, 3, 0, 1, 2, 6, 3, 0, 3, 1, 7, 3, 0, 3, 1, 4, 3, 0
 /* Wire 0 beside something that would decide alone in a lazier reading: false and wire 0, true or
@@ -159,23 +154,6 @@ static const struct row rows[] = {
      .sheet = BYTES(RESET_OF_PRESENT), .memory = BYTES(CELL(1, 0), CELL(1, 50)),
      .input = BYTES(NUMBER(0), NUMBER(1)), .output_length = 4, .answer = 2,
      .memory_after = BYTES(CELL(1, 0), CELL(1, 9)), .output_after = BYTES(NUMBER(50))},
-
-    {.name = "arithmetic at the ends", .call = call_rounds, .sheet = BYTES(ARITHMETIC),
-     .input = BYTES(LEAST_NUMBER, GREATEST_NUMBER), .output_length = 16, .answer = 2,
-     .output_after = BYTES(NUMBER(1), NUMBER(0), NUMBER(1), LEAST_NUMBER)},
-    {.name = "arithmetic at the ends, turned round", .call = call_rounds,
-     .sheet = BYTES(ARITHMETIC), .input = BYTES(GREATEST_NUMBER, LEAST_NUMBER),
-     .output_length = 16, .answer = 2,
-     .output_after = BYTES(NUMBER(0), NUMBER(0), MINUS(1), 1, 0, 0, 128)},
-    {.name = "-1 is below 0", .call = call_scheduled, .sheet = BYTES(ARITHMETIC),
-     .input = BYTES(MINUS(1), NUMBER(0)), .output_length = 16, .schedule = BYTES(3, 1, 2, 0),
-     .output_after = BYTES(NUMBER(1), NUMBER(0), MINUS(1), NUMBER(1))},
-    {.name = "all four bytes are compared", .call = call_rounds, .sheet = BYTES(ARITHMETIC),
-     .input = BYTES(0, 0, 1, 0, NUMBER(0)), .output_length = 16, .answer = 2,
-     .output_after = BYTES(NUMBER(0), NUMBER(0), 0, 0, 1, 0, 0, 0, 255, 255)},
-    {.name = "equal is not below", .call = call_rounds, .sheet = BYTES(ARITHMETIC),
-     .input = BYTES(MINUS(3), MINUS(3)), .output_length = 16, .answer = 2,
-     .output_after = BYTES(NUMBER(0), NUMBER(1), NUMBER(0), NUMBER(3))},
 
     {.name = "logic: false false", .call = call_rounds, .sheet = BYTES(LOGIC),
      .input = BYTES(NUMBER(0), NUMBER(0)), .output_length = 12, .answer = 2,

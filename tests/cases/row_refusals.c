@@ -72,7 +72,7 @@ static const struct row rows[] = {
      .input = BYTES(NUMBER(1), LEAST_NUMBER), .refused = 15, .place = 1},
     {.name = "15: the number input may be anything", .call = call_rounds,
      .sheet = BYTES(SHEET_L), .input = BYTES(NUMBER(1), GREATEST_NUMBER), .output_length = 4,
-     .answer = 6, .output_after = BYTES(LEAST_NUMBER)},
+     .answer = 6, .output_after = BYTES(1, 0, 0, 128)},
 
     {.name = "16: an output short", .call = call_rounds, SHEET_A_STARTED,
      .input = BYTES(NUMBER(1), NUMBER(0)), .output_length = 4, .refused = 16, .place = 0},

@@ -8,8 +8,11 @@
 /* A length that would pass if only its lower sixteen bits were looked at. */
 static const uint8_t wrapping_list[sixteen_bits + 2] = {0, 1};
 
-/* A lent list that holds rubbish. */
+/* A lent list that holds rubbish, and a schedule made over it. */
 #define LENT(length) {NULL, length}
+#define MADE(title, bytes, ...)                                                                                         \
+    {.name = title, .call = call_make, .sheet = BYTES(bytes), .schedule = LENT(sizeof((const uint8_t[]){__VA_ARGS__})), \
+     .schedule_after = BYTES(__VA_ARGS__)}
 
 /* Number wires without inputs, wire 0 the output; then what a wire may be. */
 #define WIRES_2 0, 2, 1, 1, 1, 0
@@ -22,8 +25,9 @@ static const uint8_t wrapping_list[sixteen_bits + 2] = {0, 1};
 /* Wire 0 is a wire, and behind it are constants, so that only starting again at wire 0 gives it its early position. */
 #define READS_WIRE_1 WIRES_3, WIRE(1), CONSTANT, CONSTANT
 #define READS_WIRE_2 WIRES_4, WIRE(2), CONSTANT, CONSTANT, CONSTANT
-/* Wire 0 is wire 63, and all the others are constants. */
+/* Wire 0 is wire 63, and all the others are constants; and all are. */
 #define READS_WIRE_63 HEADER_OF_64, WIRE(63), TIMES_63(CONSTANT)
+#define CONSTANTS_64 HEADER_OF_64, TIMES_64(CONSTANT)
 /* Wire 1 is wire 3, that is wire 2, that is wire 0, that is wire 4. */
 #define CHAIN_UP_AND_DOWN WIRES_5, WIRE(4), WIRE(3), WIRE(0), WIRE(2), CONSTANT
 
@@ -63,12 +67,12 @@ static const uint8_t wrapping_list[sixteen_bits + 2] = {0, 1};
         WIRE(6), 0, 1, 0, 1, TIMES_4(CONSTANT)
 
 static const struct row rows[] = {
-    {.name = "A: 0 1", .call = call_make, .sheet = BYTES(SHEET_A), .schedule = LENT(2), .schedule_after = BYTES(0, 1)},
+    MADE("A: 0 1", SHEET_A, 0, 1),
     {.name = "B: no list", .call = call_make, .sheet = BYTES(SHEET_B), .schedule = BYTES(0), .refused = 21, .place = 0},
     {.name = "C: no list", .call = call_make, .sheet = BYTES(SHEET_C), .schedule = BYTES(0), .refused = 21, .place = 0},
     {.name = "D: no list", .call = call_make, .sheet = BYTES(SHEET_D), .schedule = LENT(1), .refused = 21, .place = 0},
-    {.name = "E: 2 1 0", .call = call_make, .sheet = BYTES(SHEET_E), .schedule = LENT(3), .schedule_after = BYTES(2, 1, 0)},
-    {.name = "F: 0", .call = call_make, .sheet = BYTES(SHEET_F), .schedule = LENT(1), .schedule_after = BYTES(0)},
+    MADE("E: 2 1 0", SHEET_E, 2, 1, 0),
+    MADE("F: 0", SHEET_F, 0),
     {.name = "L: no list", .call = call_make, .sheet = BYTES(SHEET_L), .schedule = LENT(5), .refused = 21, .place = 0},
 
     {.name = "E: over a list that is refused", .call = call_make, .sheet = BYTES(SHEET_E), .schedule = BYTES(0, 1, 2),
@@ -80,20 +84,13 @@ static const struct row rows[] = {
     {.name = "A: over 1 0, which passes too", .call = call_make, .sheet = BYTES(SHEET_A), .schedule = BYTES(1, 0),
      .schedule_after = BYTES(0, 1)},
 
-    {.name = "again from wire 0", .call = call_make, .sheet = BYTES(READS_WIRE_1), .schedule = LENT(3),
-     .schedule_after = BYTES(1, 0, 2)},
-    {.name = "again from wire 0, later", .call = call_make, .sheet = BYTES(READS_WIRE_2), .schedule = LENT(4),
-     .schedule_after = BYTES(1, 2, 0, 3)},
-    {.name = "again from wire 0, last", .call = call_make, .sheet = BYTES(READS_WIRE_63), .schedule = LENT(64),
-     .schedule_after = BYTES(FROM_1_TO_63, 0)},
-    {.name = "chain up and down", .call = call_make, .sheet = BYTES(CHAIN_UP_AND_DOWN), .schedule = LENT(5),
-     .schedule_after = BYTES(4, 0, 2, 3, 1)},
-    {.name = "64 constants", .call = call_make, .sheet = BYTES(HEADER_OF_64, TIMES_64(CONSTANT)), .schedule = LENT(64),
-     .schedule_after = BYTES(0, FROM_1_TO_63)},
-    {.name = "chain of 64", .call = call_make, .sheet = BYTES(CHAIN_OF_64), .schedule = LENT(64),
-     .schedule_after = BYTES(DOWN_FROM_63)},
-    {.name = "rising chain of 64", .call = call_make, .sheet = BYTES(RISING_CHAIN_OF_64), .schedule = LENT(64),
-     .schedule_after = BYTES(0, FROM_1_TO_63)},
+    MADE("again from wire 0", READS_WIRE_1, 1, 0, 2),
+    MADE("again from wire 0, later", READS_WIRE_2, 1, 2, 0, 3),
+    MADE("again from wire 0, last", READS_WIRE_63, FROM_1_TO_63, 0),
+    MADE("chain up and down", CHAIN_UP_AND_DOWN, 4, 0, 2, 3, 1),
+    MADE("64 constants", CONSTANTS_64, 0, FROM_1_TO_63),
+    MADE("chain of 64", CHAIN_OF_64, DOWN_FROM_63),
+    MADE("rising chain of 64", RISING_CHAIN_OF_64, 0, FROM_1_TO_63),
 
     {.name = "21: loop of 64", .call = call_make, .sheet = BYTES(LOOP_OF_64), .schedule = BYTES(DOWN_FROM_63), .refused = 21,
      .place = 0},
@@ -112,39 +109,26 @@ static const struct row rows[] = {
     {.name = "21: a loop within another's numbers", .call = call_make, .sheet = BYTES(LOOPS_OF_1_AND_4_OF_2_AND_3),
      .schedule = LENT(5), .refused = 21, .place = 1},
 
-    {.name = "under a pre", .call = call_make, .sheet = BYTES(UNDER_PRE), .schedule = LENT(1), .schedule_after = BYTES(0)},
-    {.name = "right of an fby", .call = call_make, .sheet = BYTES(RIGHT_OF_FBY), .schedule = LENT(1), .schedule_after = BYTES(0)},
-    {.name = "left of an fby under a pre", .call = call_make, .sheet = BYTES(LEFT_UNDER_PRE), .schedule = LENT(1),
-     .schedule_after = BYTES(0)},
-    {.name = "left of an fby right of an fby", .call = call_make, .sheet = BYTES(LEFT_ON_THE_RIGHT), .schedule = LENT(1),
-     .schedule_after = BYTES(0)},
-    {.name = "behind a pre", .call = call_make, .sheet = BYTES(BEHIND_PRE), .schedule = LENT(2), .schedule_after = BYTES(1, 0)},
-    {.name = "behind an fby", .call = call_make, .sheet = BYTES(BEHIND_FBY), .schedule = LENT(2), .schedule_after = BYTES(1, 0)},
-    {.name = "left of an fby", .call = call_make, .sheet = BYTES(LEFT_OF_FBY), .schedule = LENT(2), .schedule_after = BYTES(1, 0)},
-    {.name = "left of the left", .call = call_make, .sheet = BYTES(LEFT_OF_LEFT), .schedule = LENT(2),
-     .schedule_after = BYTES(1, 0)},
+    MADE("under a pre", UNDER_PRE, 0),
+    MADE("right of an fby", RIGHT_OF_FBY, 0),
+    MADE("left of an fby under a pre", LEFT_UNDER_PRE, 0),
+    MADE("left of an fby right of an fby", LEFT_ON_THE_RIGHT, 0),
+    MADE("behind a pre", BEHIND_PRE, 1, 0),
+    MADE("behind an fby", BEHIND_FBY, 1, 0),
+    MADE("left of an fby", LEFT_OF_FBY, 1, 0),
+    MADE("left of the left", LEFT_OF_LEFT, 1, 0),
     {.name = "21: left of an fby", .call = call_make, .sheet = BYTES(LEFT_READS_ITSELF), .schedule = LENT(1), .refused = 21,
      .place = 0},
-    {.name = "first arm of present", .call = call_make, .sheet = BYTES(FIRST_ARM(13)), .schedule = LENT(2),
-     .schedule_after = BYTES(1, 0)},
-    {.name = "second arm of present", .call = call_make, .sheet = BYTES(SECOND_ARM(13)), .schedule = LENT(2),
-     .schedule_after = BYTES(1, 0)},
-    {.name = "first arm of if", .call = call_make, .sheet = BYTES(FIRST_ARM(12)), .schedule = LENT(2),
-     .schedule_after = BYTES(1, 0)},
-    {.name = "second arm of if", .call = call_make, .sheet = BYTES(SECOND_ARM(12)), .schedule = LENT(2),
-     .schedule_after = BYTES(1, 0)},
-    {.name = "condition of if", .call = call_make, .sheet = BYTES(CONDITION_OF_CHOICE(12)), .schedule = LENT(2),
-     .schedule_after = BYTES(1, 0)},
-    {.name = "condition of present", .call = call_make, .sheet = BYTES(CONDITION_OF_CHOICE(13)), .schedule = LENT(2),
-     .schedule_after = BYTES(1, 0)},
-    {.name = "condition of reset", .call = call_make, .sheet = BYTES(CONDITION_OF_RESET), .schedule = LENT(2),
-     .schedule_after = BYTES(1, 0)},
-    {.name = "operand of reset", .call = call_make, .sheet = BYTES(OPERAND_OF_RESET), .schedule = LENT(2),
-     .schedule_after = BYTES(1, 0)},
-    {.name = "operands of operations, less than", .call = call_make, .sheet = BYTES(OPERATIONS(10)), .schedule = LENT(7),
-     .schedule_after = BYTES(1, 2, 3, 4, 5, 6, 0)},
-    {.name = "operands of operations, equal", .call = call_make, .sheet = BYTES(OPERATIONS(11)), .schedule = LENT(7),
-     .schedule_after = BYTES(1, 2, 3, 4, 5, 6, 0)},
+    MADE("first arm of present", FIRST_ARM(13), 1, 0),
+    MADE("second arm of present", SECOND_ARM(13), 1, 0),
+    MADE("first arm of if", FIRST_ARM(12), 1, 0),
+    MADE("second arm of if", SECOND_ARM(12), 1, 0),
+    MADE("condition of if", CONDITION_OF_CHOICE(12), 1, 0),
+    MADE("condition of present", CONDITION_OF_CHOICE(13), 1, 0),
+    MADE("condition of reset", CONDITION_OF_RESET, 1, 0),
+    MADE("operand of reset", OPERAND_OF_RESET, 1, 0),
+    MADE("operands of operations, less than", OPERATIONS(10), 1, 2, 3, 4, 5, 6, 0),
+    MADE("operands of operations, equal", OPERATIONS(11), 1, 2, 3, 4, 5, 6, 0),
 
     {.name = "2: before 17", .call = call_make, .sheet = BYTES(WIRES_2, WIRE(1), 2), .schedule = BYTES(0), .refused = 2, .place = 9},
     {.name = "3: before 17", .call = call_make, .sheet = BYTES(0, 65), .schedule = LENT(65), .refused = 3, .place = 1},

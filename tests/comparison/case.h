@@ -48,4 +48,9 @@ void compare_start(struct harness *harness, struct workspace *workspace);
 /* Both instants from the memory, input row and list in "given". Answers whether the rounds are accepted. */
 bool compare_instant(struct harness *harness, struct workspace *workspace, bool list_passes);
 
+/* ---- ends.c ---- */
+
+/* So many pairs of numbers at and near the ends, each in an instant both ways. Answers whether results of every sort were met. */
+bool compare_pairs(struct harness *harness, struct workspace *workspace, unsigned long pairs);
+
 #endif

@@ -1,5 +1,6 @@
 /* Compares the library with the evaluator on random and damaged sheets, memories, rows and schedules: the same answer and the same
- * bytes in every buffer, and directly demand 3 and what a made schedule is. Rests on the generator, the harness and the steps.
+ * bytes in every buffer, and directly demand 3 and what a made schedule is; then on pairs of numbers. Rests on the generator, the
+ * harness and the steps.
  *
  * Usage: compare [CASES] [SEED]
  */
@@ -16,6 +17,8 @@
 /* What is tried of each sheet once its check was compared, in this order: a step put at the end leaves the cases of those before it
  * as they are. */
 static step *const steps[] = {compare_refused_sheet, compare_instants, compare_maker};
+
+enum { pairs_of_numbers = 1000000 };
 
 /* Answers whether the sheet has to pass the check. */
 static bool make_sheet(struct harness *harness, struct workspace *workspace)
@@ -92,6 +95,7 @@ int main(int argument_count, char **arguments)
         run_case(&harness, &workspace);
     }
     const bool all_met = print_statistics(&harness.statistics);
-    printf("compare: %llu cases, 0 mismatches\n", (unsigned long long)cases);
-    return all_met ? 0 : 1;
+    const bool all_results_met = compare_pairs(&harness, &workspace, pairs_of_numbers);
+    printf("compare: %llu cases and %d pairs of numbers, 0 mismatches\n", (unsigned long long)cases, pairs_of_numbers);
+    return all_met && all_results_met ? 0 : 1;
 }

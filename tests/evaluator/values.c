@@ -27,15 +27,25 @@ void pass_over(struct instant *instant)
     instant->next_cell = cell;
 }
 
-uint32_t result_of_one(unsigned kind, uint32_t operand)
+/* The whole number that 32 bits stand for. */
+static int64_t whole_number(uint32_t bits)
 {
-    return kind == kind_not ? 1u - operand : 0u - operand;
+    return bits <= INT32_MAX ? (int64_t)bits : (int64_t)bits - INT64_C(4294967296);
 }
 
-static bool is_less(uint32_t first, uint32_t second)
+/* The bits of an exact result. A full register stays full: the result stops at the ends of 32 bits. */
+static uint32_t stopped(int64_t exact)
 {
-    /* With the sign bit turned over, the signed order is the unsigned one. */
-    return (first ^ UINT32_C(0x80000000)) < (second ^ UINT32_C(0x80000000));
+    if (exact > INT32_MAX)
+        return UINT32_C(0x7FFFFFFF);
+    if (exact < INT32_MIN)
+        return UINT32_C(0x80000000);
+    return (uint32_t)exact;
+}
+
+uint32_t result_of_one(unsigned kind, uint32_t operand)
+{
+    return kind == kind_not ? 1u - operand : stopped(-whole_number(operand));
 }
 
 uint32_t result_of_two(unsigned kind, uint32_t first, uint32_t second)
@@ -46,11 +56,11 @@ uint32_t result_of_two(unsigned kind, uint32_t first, uint32_t second)
     case kind_or:
         return first | second;
     case kind_add:
-        return first + second;
+        return stopped(whole_number(first) + whole_number(second));
     case kind_subtract:
-        return first - second;
+        return stopped(whole_number(first) - whole_number(second));
     case kind_less:
-        return is_less(first, second);
+        return whole_number(first) < whole_number(second);
     default:
         return first == second;
     }

@@ -25,7 +25,7 @@ bool percent(struct random *random, unsigned share)
     return below(random, 100) < share;
 }
 
-/* Small numbers make equal and less than interesting, the ends of the range make wrapping so. */
+/* Small numbers make equal and less than interesting, the ends of the range make results that stop there. */
 uint32_t random_number(struct random *random)
 {
     static const uint32_t ends[] = {UINT32_C(0x7FFFFFFF), UINT32_C(0x80000000),

@@ -1,5 +1,6 @@
--- Document 01's cases A to L as one table: the sheet's bytes, the input rows of one instant after the other, what each instant gives,
--- and lists with what the scheduled instant answers. One test runs a row through the outcomes of the calls.
+-- Document 01's cases A to L, and those of document 02 about the instants, as one table: the sheet's bytes, the input rows of one
+-- instant after the other, what each instant gives, and lists with what the scheduled instant answers. One test runs a row through the
+-- outcomes of the calls.
 use Prim.Native.Nat.{ℕ, _+_, _*_}
 use mathlib.Core.Bool.{Bool, true, false, _&&_, cond}
 use mathlib.Core.List.{List, [], _∷_, _++_, map}
@@ -116,6 +117,17 @@ zero-number = 1 ∷ 0 ∷ 0 ∷ 0 ∷ 0 ∷ []
 abbrev one-number : List ℕ
 one-number = 1 ∷ 1 ∷ 0 ∷ 0 ∷ 0 ∷ []
 
+-- 2147483647 and -2147483648
+abbrev greatest-number : List ℕ
+greatest-number = 1 ∷ 255 ∷ 255 ∷ 255 ∷ 127 ∷ []
+
+abbrev least-number : List ℕ
+least-number = 1 ∷ 0 ∷ 0 ∷ 0 ∷ 128 ∷ []
+
+-- no inputs, one output
+abbrev gives : ℤ → Step
+gives z = step [] (accepts 2 (z ∷ []))
+
 -- 10 fby 20
 abbrev ten-then-twenty : List ℕ
 ten-then-twenty = 17 ∷ 1 ∷ 10 ∷ 0 ∷ 0 ∷ 0 ∷ 1 ∷ 20 ∷ 0 ∷ 0 ∷ 0 ∷ []
@@ -179,10 +191,9 @@ table =
     -- I
     ∷ alone (single (0 ∷ 0 ∷ []) (13 ∷ 3 ∷ 0 ∷ 14 ∷ 3 ∷ 1 ∷ (ten-then-twenty ++ zero-number)))
     (on (1 ∷ 0 ∷ []) (10 ∷ []) ∷ on (0 ∷ 1 ∷ []) (0 ∷ []) ∷ on (1 ∷ 0 ∷ []) (20 ∷ []) ∷ [])
-    -- J
-    ∷ alone (single [] (8 ∷ 1 ∷ 255 ∷ 255 ∷ 255 ∷ 127 ∷ one-number)) (step [] (accepts 2 (minus 2147483648 ∷ [])) ∷ [])
-    -- K
-    ∷ alone (single [] (5 ∷ 1 ∷ 0 ∷ 0 ∷ 0 ∷ 128 ∷ [])) (step [] (accepts 2 (minus 2147483648 ∷ [])) ∷ [])
+    -- J and K, whose numbers are those of document 02's K2
+    ∷ alone (single [] (8 ∷ (greatest-number ++ one-number))) (gives (pos 2147483647) ∷ [])
+    ∷ alone (single [] (5 ∷ least-number)) (gives (pos 2147483647) ∷ [])
     -- L; that the scheduled instant is refused on every list is `crossed-refused` of Laws/Cases
     ∷ record {
       sheet = crossedSheet 13;
@@ -192,4 +203,15 @@ table =
           ∷ [];
       lists = [];
     }
+    -- K2: subtract at the lower end, and from -1 the least number; the greatest number negated
+    ∷ alone (single [] (9 ∷ (least-number ++ one-number))) (gives (minus 2147483648) ∷ [])
+    ∷ alone (single [] (9 ∷ 1 ∷ 255 ∷ 255 ∷ 255 ∷ 255 ∷ least-number)) (gives (pos 2147483647) ∷ [])
+    ∷ alone (single [] (5 ∷ greatest-number)) (gives (minus 2147483647) ∷ [])
+    -- K2: each operation stops its own result: (2147483647 + 1) - 1
+    ∷ alone (single [] (9 ∷ 8 ∷ (greatest-number ++ one-number ++ one-number))) (gives (pos 2147483646) ∷ [])
+    -- K2: a register counting up, then one counting down, that comes to its end and stays there
+    ∷ alone (single [] (17 ∷ 1 ∷ 254 ∷ 255 ∷ 255 ∷ 127 ∷ 8 ∷ 2 ∷ 0 ∷ one-number))
+    (gives (pos 2147483646) ∷ gives (pos 2147483647) ∷ gives (pos 2147483647) ∷ [])
+    ∷ alone (single [] (17 ∷ 1 ∷ 1 ∷ 0 ∷ 0 ∷ 128 ∷ 9 ∷ 2 ∷ 0 ∷ one-number))
+    (gives (minus 2147483647) ∷ gives (minus 2147483648) ∷ gives (minus 2147483648) ∷ [])
     ∷ []

@@ -19,4 +19,5 @@ pub mod Storing
 pub mod Memory
 pub mod Refusals
 pub mod Answers
+pub mod Sums
 pub mod Cases

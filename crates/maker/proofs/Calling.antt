@@ -1,5 +1,5 @@
 -- A sheet that the check passes, with the sets of its map; and the maker's call, by the answer of the check.
-use Prim.Native.Nat.{ℕ, _≤_, _<_}
+use Prim.Native.Nat.{ℕ, _≤_}
 use mathlib.Core.Path.{_≡_, refl, sym, ap, _∙_}
 use mathlib.Core.List.{List}
 use native.Mathlib.Omega.{arith}
@@ -8,7 +8,7 @@ use Rattle.sheet.specs.Data.{typeOfByte}
 use Rattle.sheet.specs.Outcomes.{refusal, result}
 use Rattle.sheet.specs.Sheets.{Sheet, before, sheetOf, checkOf}
 use Rattle.sheet.specs.Typing.{WellTyped}
-use Rattle.sheet.specs.Laws.Checked.{CheckPassed, check-passed}
+use Rattle.sheet.specs.Laws.Checked.{check-passed}
 use Rattle.sheet.specs.Laws.Headers.{SheetRead}
 use Rattle.sheet.specs.Laws.Typing.{passed-check}
 use Rattle.sheet.specs.declared.Refusal.{Refusal}

@@ -1,7 +1,7 @@
 -- How the code's tests and turns go into the definition of the made list.
 use Prim.Native.Nat.{ℕ, zero, suc, _+_, _≤_, _<_}
 use mathlib.Core.Path.{_≡_, refl, sym, ap, _∙_}
-use mathlib.Core.Bool.{Bool, true, false, not, _&&_, _||_, cond}
+use mathlib.Core.Bool.{Bool, true, false, not, _&&_, cond}
 use mathlib.Core.List.{List, [], _∷_, _++_}
 use lib.Dec.{eqb, ltb, leb}
 use native.Mathlib.Nat.{le-antisymm, lt-of-not-le}
@@ -21,7 +21,7 @@ use Rattle.sheet.specs.Laws.Lists.{never, both, among-each}
 use Rattle.sheet.specs.Laws.Lowest.{lowest-first}
 use Rattle.sheet.specs.declared.Refusal.the-variants.{ScheduleLength, NoSchedule}
 use Rattle.sheet_expressions.specs.Map.{HoldsJust, EachHoldsJust}
-use Rattle.sheet_expressions.specs.Sets.{holds-none, holds-more}
+use Rattle.sheet_expressions.specs.Sets.{holds-none}
 use Rattle.closure.specs.Closures.{Rows, through, lowestLoop}
 use Rattle.kernel.specs.Instants.{wireCount}
 use Rattle.maker.specs.Reaching.{readsOf, reads, reachesItself}

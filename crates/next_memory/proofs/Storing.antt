@@ -8,7 +8,7 @@ use native.Mathlib.Omega.{arith}
 use lib.ListN.{length, getD, take, drop, length-append}
 use lib.Seq.{sets, length-sets, drop-cons, drop-length, take-suc}
 use Rattle.sheet.specs.Expressions.{Expression, constant, cellForms, cellCount}
-use Rattle.sheet.specs.Sheets.{formsOf}
+use Rattle.sheet.specs.Sheets.{formsOf, expressionAt, cellsBefore}
 use Rattle.sheet.specs.Memory.{memoryBytes}
 use Rattle.sheet.specs.Laws.Readings.{forms-length, expression-extent}
 use Rattle.sheet.specs.Laws.Memory.{pairwise-length, memory-length}
@@ -26,7 +26,7 @@ use Rattle.expression.specs.Places.{CellsStand}
 use Rattle.expression.proofs.Views.{cells-split}
 use Rattle.kernel.specs.declared.Value.{Value}
 use Rattle.rounds.specs.Running.{Held, held}
-use Rattle.rounds.proofs.Wires.{treeAt, cellsBefore, wires-counted, running-stands}
+use Rattle.rounds.proofs.Wires.{wires-counted, running-stands}
 use Rattle.storing.specs.Advances.{Ready, Advances}
 use Rattle.storing.proofs.Standing.{cells-past, memory-append, stored-length}
 use Rattle.next_memory.specs.Settled.{Settled, storedOf}
@@ -97,9 +97,9 @@ module _ {s start types places firsts words : List ℕ} (f : Settled s start typ
 
     -- the expression of wire w, its cells and those behind them
     record Turn (w : ℕ) (memory : List ℕ) : Type 0 where
-      trees-left : drop w trees ≡ treeAt trees w ∷ drop (suc w) trees
-      counted : first (suc w) ≡ first w + cellCount (treeAt trees w)
-      cells : CellsStand memory (f .running .given .memory) (first w) (cellForms (treeAt trees w))
+      trees-left : drop w trees ≡ expressionAt trees w ∷ drop (suc w) trees
+      counted : first (suc w) ≡ first w + cellCount (expressionAt trees w)
+      cells : CellsStand memory (f .running .given .memory) (first w) (cellForms (expressionAt trees w))
       behind : CellsStand memory (f .running .given .memory) (first (suc w)) (formsOf (drop (suc w) trees))
       within : first (suc w) ≤ length (formsOf trees)
 
@@ -108,13 +108,13 @@ module _ {s start types places firsts words : List ℕ} (f : Settled s start typ
     turn {w} h l =
         let inside : w < length trees = omega (arith, wires-counted (f .running)) in
         let split = drop-cons trees w (constant (Boolean false)) inside in
-        let both = cells-split (cellForms (treeAt trees w)) (formsOf (drop (suc w) trees)) (rw split at (h .cells)) in
-        let count : first (suc w) ≡ first w + length (cellForms (treeAt trees w)) =
-        rw (take-suc trees w (constant (Boolean false)) inside, forms-snoc (take w trees) (treeAt trees w))
-        (length-append (formsOf (take w trees)) (cellForms (treeAt trees w))) in
+        let both = cells-split (cellForms (expressionAt trees w)) (formsOf (drop (suc w) trees)) (rw split at (h .cells)) in
+        let count : first (suc w) ≡ first w + length (cellForms (expressionAt trees w)) =
+        rw (take-suc trees w (constant (Boolean false)) inside, forms-snoc (take w trees) (expressionAt trees w))
+        (length-append (formsOf (take w trees)) (cellForms (expressionAt trees w))) in
         record {
           trees-left = split;
-          counted = omega (arith, count, forms-length (treeAt trees w));
+          counted = omega (arith, count, forms-length (expressionAt trees w));
           cells = both .0;
           behind = rw (← count) at (both .1);
           within = first-within trees (suc w);
@@ -136,7 +136,7 @@ module _ {s start types places firsts words : List ℕ} (f : Settled s start typ
             inputs = f .running .inputs;
             wires = types;
             now = environment;
-            tree = treeAt trees w;
+            tree = expressionAt trees w;
             next = here .next;
             count = here .count;
             reads = rw (p, q) (here .reads);
@@ -149,11 +149,11 @@ module _ {s start types places firsts words : List ℕ} (f : Settled s start typ
 
     -- the cells of wire w are stored, whoever did it
     further : {w : ℕ} {memory after : List ℕ} → Stored w memory → w < length types
-        → after ≡ sets memory (5 * first w) (memoryBytes (stored environment false (treeAt trees w) (first w))) → Stored (w + 1) after
+        → after ≡ sets memory (5 * first w) (memoryBytes (stored environment false (expressionAt trees w) (first w))) → Stored (w + 1) after
     unfolding storedCells
     further {w} {memory} {after} h l holds =
         let t = turn h l in
-        let tree = treeAt trees w in
+        let tree = expressionAt trees w in
         let bytes = memoryBytes (stored environment false tree (first w)) in
         let size : length bytes ≡ 5 * cellCount tree =
         memory-length (stored environment false tree (first w))
@@ -185,8 +185,8 @@ module _ {s start types places firsts words : List ℕ} (f : Settled s start typ
         let t = turn h inside in
         let next : getD firsts (suc w) 0 ≡ first (suc w) = rw add-one at (f .running .starts (w + 1) l .first) in
         let alike : getD firsts w 0 ≡ getD firsts (suc w) 0 = rw add-one at same in
-        let cells = stored environment false (treeAt trees w) (first w) in
-        let size = stored-length environment false (treeAt trees w) (first w) (omega (arith, t .within, t .counted, owned .0)) in
+        let cells = stored environment false (expressionAt trees w) (first w) in
+        let size = stored-length environment false (expressionAt trees w) (first w) (omega (arith, t .within, t .counted, owned .0)) in
         let nothing : cells ≡ [] = no-cells cells (omega (arith, size, t .counted, f .running .starts w inside .first)) in
         further h inside (rw nothing)
 

@@ -1,4 +1,4 @@
--- Sums, differences and opposites of 32-bit numbers: how large they are, and that 64 bits hold them.
+-- Sums and differences of 32-bit numbers fit 64 bits, and all opposites but one fit 32.
 use Prim.Native.Nat.{ℕ, zero, suc, _-_, _<_}
 use mathlib.Core.Path.{_≡_, refl, _∙_}
 use mathlib.Core.Bool.{Bool, true, false, cond}
@@ -6,7 +6,6 @@ use native.Mathlib.Omega.{arith}
 use lib.Arith.{lt-of-le-ne}
 use lib.Dec.{ltb}
 use lib.IntN.{ℤ, pos, negsuc, negℤ, _+ℤ_, _-ℤ_}
-use lib.Signed.{mag}
 use mir.Syntax.{w32, w64}
 use mir.Val.{SFits, ofZ, toZ}
 use mir.Facts.{toZ-ofZ, sfits-widen}
@@ -14,39 +13,26 @@ use borrow.Author.Tests.{ltb-true, ltb-false}
 
 -- m - n of two magnitudes up to 2 ^ 31
 by-sign : (m n : ℕ) → m < 2147483649 → n < 2147483649 → (t : Bool) → ltb m n ≡ t
-    → mag (cond t (negsuc (n - suc m)) (pos (m - n))) < 4294967296
-by-sign m n f g true t = omega (arith, ltb-true m n t)
-by-sign m n f g false t = omega (arith, ltb-false m n t)
+    → SFits w64 (cond t (negsuc (n - suc m)) (pos (m - n)))
+by-sign m n f g true t = record { sfits = omega (arith, ltb-true m n t) }
+by-sign m n f g false t = record { sfits = omega (arith, ltb-false m n t) }
 
-pub sum-small : (a b : ℤ) → SFits w32 a → SFits w32 b → mag (a +ℤ b) < 4294967296
-sum-small (pos m) (pos n) f g = omega (arith, f .sfits, g .sfits)
-sum-small (pos m) (negsuc n) f g = by-sign m (suc n) (omega (arith, f .sfits)) (omega (arith, g .sfits)) (ltb m (suc n)) refl
-sum-small (negsuc m) (pos n) f g = by-sign n (suc m) (omega (arith, g .sfits)) (omega (arith, f .sfits)) (ltb n (suc m)) refl
-sum-small (negsuc m) (negsuc n) f g = omega (arith, f .sfits, g .sfits)
+pub sum-fits : (a b : ℤ) → SFits w32 a → SFits w32 b → SFits w64 (a +ℤ b)
+sum-fits (pos m) (pos n) f g = record { sfits = omega (arith, f .sfits, g .sfits) }
+sum-fits (pos m) (negsuc n) f g = by-sign m (suc n) (omega (arith, f .sfits)) (omega (arith, g .sfits)) (ltb m (suc n)) refl
+sum-fits (negsuc m) (pos n) f g = by-sign n (suc m) (omega (arith, g .sfits)) (omega (arith, f .sfits)) (ltb n (suc m)) refl
+sum-fits (negsuc m) (negsuc n) f g = record { sfits = omega (arith, f .sfits, g .sfits) }
 
-pub difference-small : (a b : ℤ) → SFits w32 a → SFits w32 b → mag (a -ℤ b) < 4294967296
-difference-small a (pos zero) f g = sum-small a (pos zero) f g
-difference-small a (pos (suc n)) f g = sum-small a (negsuc n) f (record { sfits = omega (arith, g .sfits) })
-difference-small (pos m) (negsuc n) f g = omega (arith, f .sfits, g .sfits)
-difference-small (negsuc m) (negsuc n) f g =
+pub difference-fits : (a b : ℤ) → SFits w32 a → SFits w32 b → SFits w64 (a -ℤ b)
+difference-fits a (pos zero) f g = sum-fits a (pos zero) f g
+difference-fits a (pos (suc n)) f g = sum-fits a (negsuc n) f (record { sfits = omega (arith, g .sfits) })
+difference-fits (pos m) (negsuc n) f g = record { sfits = omega (arith, f .sfits, g .sfits) }
+difference-fits (negsuc m) (negsuc n) f g =
     by-sign (suc n) (suc m) (omega (arith, g .sfits)) (omega (arith, f .sfits)) (ltb (suc n) (suc m)) refl
-
--- so they fit 64 bits
-small : {z : ℤ} → mag z < 4294967296 → SFits w64 z
-small h = record { sfits = omega (arith, h) }
-
-pub sum-fits : {a b : ℤ} → SFits w32 a → SFits w32 b → SFits w64 (a +ℤ b)
-sum-fits f g = small (sum-small _ _ f g)
-
-pub difference-fits : {a b : ℤ} → SFits w32 a → SFits w32 b → SFits w64 (a -ℤ b)
-difference-fits f g = small (difference-small _ _ f g)
 
 -- a number, cast to 64 bits
 pub widens : {z : ℤ} → SFits w32 z → SFits w64 (toZ w32 (ofZ w32 z))
 widens f = rw (toZ-ofZ f) (sfits-widen tt f)
-
-pub wide-back : {z : ℤ} → SFits w32 z → toZ w64 (ofZ w64 z) ≡ z
-wide-back f = toZ-ofZ {w = w64} (sfits-widen tt f)
 
 pub widened : {z : ℤ} → SFits w32 z → toZ w64 (ofZ w64 (toZ w32 (ofZ w32 z))) ≡ z
 widened f = toZ-ofZ {w = w64} (widens f) ∙ toZ-ofZ f

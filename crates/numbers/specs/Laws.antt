@@ -1,5 +1,6 @@
--- What holds of the numbers and of their words: a settled number has 32 bits, the test of equality passes on the same
--- numbers only, and a word that was stored is read back.
+-- What holds of the numbers and of their words: the test of equality passes on the same numbers only, and a word that was stored is
+-- read back.
+pub mod Nearest
 use Prim.Native.Nat.{ℕ, zero, suc, _+_, _/_, _%_, _≤_, _<_}
 use mathlib.Core.Path.{_≡_, refl, ap, _∙_}
 use mathlib.Core.Bool.{true}
@@ -9,21 +10,9 @@ use native.Mathlib.Nat.{add-zero, add-suc, suc-add}
 use lib.IntN.{ℤ, pos, negsuc}
 use lib.ListN.{length, getD, set, drop, length-set, drop-of-length-le}
 use lib.Seq.{sets, sets-eq, getD-set-same, getD-set-other}
-use mir.Syntax.{w32}
-use mir.Val.{SFits}
-use mir.Facts.{sfits-toZ}
 use borrow.Author.Tests.{eqb-true, eq-eqb}
-use Rattle.numbers.specs.Numbers.{lowBits, settled, equals}
+use Rattle.numbers.specs.Numbers.{equals}
 use Rattle.numbers.specs.Words.{wordAt, wordBytes}
-
-low-bits-bound : (z : ℤ) → lowBits z < 4294967296
-unfolding lowBits
-low-bits-bound (pos n) = omega arith
-low-bits-bound (negsuc n) = omega arith
-
-pub settled-fits : (z : ℤ) → SFits w32 (settled z)
-unfolding settled
-settled-fits z = sfits-toZ (record { fits = low-bits-bound z })
 
 pub equals-true : (y z : ℤ) → equals y z ≡ true → y ≡ z
 unfolding equals

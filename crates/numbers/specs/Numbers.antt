@@ -1,19 +1,19 @@
 -- The numbers that wires carry, as whole numbers. A result that 32 bits may not hold is settled here and nowhere else.
-use Prim.Native.Nat.{ℕ, _-_, _%_}
-use mathlib.Core.Bool.{Bool, false}
+use mathlib.Core.Bool.{Bool, false, cond}
 use lib.Dec.{eqb}
-use lib.IntN.{ℤ, pos, negsuc}
-use mir.Syntax.{w32}
-use mir.Val.{toZ}
+use lib.IntN.{ℤ, pos, negsuc, negℤ}
+use lib.Signed.{ltZ}
 
--- the lowest 32 bits
-unfoldable pub lowBits : ℤ → ℕ
-lowBits (pos n) = n % 4294967296
-lowBits (negsuc n) = 4294967295 - n % 4294967296
+-- the ends of a register of 32 bits
+abbrev pub greatest : ℤ
+greatest = pos 2147483647
 
--- wrapped: the lowest 32 bits, read as signed
+abbrev pub least : ℤ
+least = negℤ (pos 2147483648)
+
+-- document 02, K2: a result stops at the ends
 unfoldable pub settled : ℤ → ℤ
-settled z = toZ w32 (lowBits z)
+settled z = cond (ltZ greatest z) greatest (cond (ltZ z least) least z)
 
 -- whether two numbers are the same
 unfoldable pub equals : ℤ → ℤ → Bool

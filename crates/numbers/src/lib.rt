@@ -6,7 +6,7 @@ ghost use Prim.Native.Nat.{_+_, _<_, _≤_};
 ghost use lib.IntN.{negℤ, _+ℤ_, _-ℤ_};
 ghost use lib.ListN.{length};
 ghost use lib.Seq.{sets};
-ghost use lib.Signed.{ltZ, mag};
+ghost use lib.Signed.{ltZ};
 ghost use mir.Syntax.{w32};
 ghost use mir.Val.{ofZ, toZ};
 ghost use Rattle.numbers.specs.Numbers.{settled, equals};
@@ -34,15 +34,14 @@ pub fn to_bits(number: i32) -> u32
     }
 }
 
-// The one place that says what becomes of a result that 32 bits may not hold.
+// The one place that says what becomes of a result that 32 bits may not hold: it stops at the end that it passed.
 fn settle(z: i64) -> i32
-    requires { ⌜ mag z < 4294967296 ⌝ }
     ensures { λ r. ⌜ r ≡ settled z ⌝ }
 {
     if z > 2147483647 {
-        (z - 4294967296) as i32
+        i32::MAX
     } else if z < -2147483648 {
-        (z + 4294967296) as i32
+        i32::MIN
     } else {
         z as i32
     }
@@ -66,7 +65,7 @@ pub fn subtract(a: i32, b: i32) -> i32
 pub fn negate(a: i32) -> i32
     ensures { λ r. ⌜ r ≡ settled (negℤ a) ⌝ }
 {
-    if a == i32::MIN {
+    if a == -2147483648 {
         settle(2147483648)
     } else {
         -a

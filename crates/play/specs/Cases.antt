@@ -4,7 +4,7 @@ use Prim.Native.Nat.{ℕ}
 use mathlib.Core.Path.{_≡_, refl}
 use mathlib.Core.List.{List, [], _∷_, _++_}
 use lib.IntN.{pos}
-use Rattle.numbers.specs.Numbers.{lowBits, settled, equals}
+use Rattle.numbers.specs.Numbers.{settled, equals}
 use Rattle.sheet.specs.Examples.{quarterBytes}
 use Rattle.sheet.specs.Expressions.{cellForms, cellCount}
 use Rattle.sheet.specs.Kinds.{meaningOf, operandsOf}
@@ -59,7 +59,7 @@ texts :
     ∷ (sheetLine 2 2 2 2 ∷ refusedLine 15 1 ∷ [])
     ∷ (sheetLine 0 1 1 0 ∷ refusedLine 20 0 ∷ [])
     ∷ []
-unfolding lowBits settled equals cellForms cellCount meaningOf operandsOf lowest
+unfolding settled equals cellForms cellCount meaningOf operandsOf lowest
     readEach namesOf bodyFrom ownOf readExpression fieldOf bytesOf sectionOf formsOf outputsFrom wiresFrom readSheet sheetOf
     memoryBytes invalidAt cellsFrom memoryOf startMemory startOutcome startCall rowBytes wrongAt dataFrom inputsOf
     sameDatum sameValue sameValues value kept stored

@@ -1,23 +1,23 @@
 -- A wire by the map: its expression, where its cells stand, and its value by the number of its first cell.
-use Prim.Native.Nat.{ℕ, zero, suc, _+_, _≤_, _<_}
+use Prim.Native.Nat.{ℕ, zero, suc, _+_, _<_}
 use mathlib.Core.Path.{_≡_, refl, sym, ap, _∙_}
 use mathlib.Core.Bool.{Bool, false}
 use mathlib.Core.List.{List, [], _∷_}
 use native.Mathlib.Nat.{zero-add, add-zero}
 use native.Mathlib.Omega.{arith}
 use lib.Seq.{getD-drop}
-use lib.ListN.{length, getD, take, length-append}
+use lib.ListN.{length, getD}
 use Rattle.sheet.specs.Data.{ValueType, typeOfByte, datumOf}
-use Rattle.sheet.specs.Expressions.{Expression, constant, cellForms, cellCount}
-use Rattle.sheet.specs.Sheets.{formsOf}
+use Rattle.sheet.specs.Expressions.{Expression, cellForms, cellCount}
+use Rattle.sheet.specs.Sheets.{formsOf, expressionAt, cellsBefore}
 use Rattle.sheet.specs.Laws.Memory.{word-back}
 use Rattle.sheet.specs.Laws.Typing.{type-of-named}
 use Rattle.sheet.specs.Laws.Readings.{forms-length, run-extent}
 use Rattle.sheet.specs.declared.Cell.{Cell}
-use Rattle.sheet.specs.declared.Datum.the-variants.{Boolean}
 use Rattle.kernel.specs.Values.{Fits, known-fits}
 use Rattle.kernel.specs.Instant.{Environment, under, value}
 use Rattle.kernel.specs.Instants.{valueOfWire}
+use Rattle.kernel.specs.Laws.Instants.{behind-first, value-of-wire}
 use Rattle.kernel.specs.Laws.Typing.{OnWires}
 use Rattle.kernel.specs.declared.Value.{Value}
 use Rattle.kernel.specs.declared.Value.the-variants.{Known}
@@ -25,37 +25,15 @@ use Rattle.expression.specs.Places.{valueOfWord, Stands, CellsStand, Placement}
 use Rattle.expression.proofs.Views.{cells-split}
 use Rattle.rounds.specs.Running.{Running, Held, unheld, held, Holds}
 
-abbrev pub treeAt : List Expression → ℕ → Expression
-treeAt es w = getD es w (constant (Boolean false))
-
--- how many cells the wires before w own
-abbrev pub cellsBefore : List Expression → ℕ → ℕ
-cellsBefore es w = length (formsOf (take w es))
-
--- the cells behind those of the first expression
-behind-first : (e : Expression) (es : List Expression) (k w : ℕ)
-    → k + cellsBefore (e ∷ es) (suc w) ≡ k + length (cellForms e) + cellsBefore es w
-unfolding formsOf
-behind-first e es k w = omega (arith, length-append (cellForms e) (formsOf (take w es)))
-
--- the value of a wire, by its tree and the number of its first cell
-value-of-wire : (now : Environment) (es : List Expression) (k w : ℕ) → w < length es
-    → valueOfWire now es k w ≡ value now false (treeAt es w) (k + cellsBefore es w)
-unfolding valueOfWire formsOf
-value-of-wire now [] k w l = absurd (omega arith)
-value-of-wire now (e ∷ es) k zero l = rw add-zero
-value-of-wire now (e ∷ es) k (suc w) l =
-    rw (behind-first e es k w, forms-length e) (value-of-wire now es (k + cellCount e) w (omega arith))
-
 -- the cells of a wire stand where its first one has its number
 cells-of-wire : {memory : List ℕ} {cells : List Cell} (es : List Expression) (k w : ℕ) → w < length es
-    → CellsStand memory cells k (formsOf es) → CellsStand memory cells (k + cellsBefore es w) (cellForms (treeAt es w))
+    → CellsStand memory cells k (formsOf es) → CellsStand memory cells (k + cellsBefore es w) (cellForms (expressionAt es w))
 unfolding formsOf
 cells-of-wire [] k w l s = absurd (omega arith)
 cells-of-wire (e ∷ es) k zero l s = rw add-zero (cells-split (cellForms e) (formsOf es) s .0)
 cells-of-wire (e ∷ es) k (suc w) l s =
     rw (behind-first e es k w)
-    (cells-of-wire es (k + length (cellForms e)) w (omega arith) (cells-split (cellForms e) (formsOf es) s .1))
+    (cells-of-wire es (k + cellCount e) w (omega arith) (rw (forms-length e) at (cells-split (cellForms e) (formsOf es) s .1)))
 
 -- a value of its type is what the set and its word say
 stands-for : {b : Bool} {word : ℕ} {v : Value} {t : ValueType} → Held b word v → Fits t v → v ≡ valueOfWord b t word
@@ -83,7 +61,7 @@ module _ {s memory row types places firsts : List ℕ} (r : Running s memory row
       }
 
   pub wire-cells : (w : ℕ) → w < length types
-      → CellsStand memory (r .given .memory) (getD firsts w 0) (cellForms (treeAt (r .given .sheet .expressions) w))
+      → CellsStand memory (r .given .memory) (getD firsts w 0) (cellForms (expressionAt (r .given .sheet .expressions) w))
   wire-cells w l =
       let es = r .given .sheet .expressions in
       rw (r .starts w l .first, ← (zero-add (cellsBefore es w))) (cells-of-wire es 0 w (omega (arith, wires-counted)) (r .cells))
@@ -98,7 +76,7 @@ module _ {s memory row types places firsts : List ℕ} (r : Running s memory row
         inputs = r .inputs;
         wires = types;
         now = environmentOf values;
-        tree = treeAt (r .given .sheet .expressions) w;
+        tree = expressionAt (r .given .sheet .expressions) w;
         next = at .next;
         count = at .count;
         reads = rw (p, q) (at .reads);
@@ -108,7 +86,7 @@ module _ {s memory row types places firsts : List ℕ} (r : Running s memory row
 
   -- its value is that of the wire
   pub wire-valued : (values : List Value) (w : ℕ) → w < length types → {cell : ℕ} → cell ≡ getD firsts w 0
-      → value (environmentOf values) false (treeAt (r .given .sheet .expressions) w) cell
+      → value (environmentOf values) false (expressionAt (r .given .sheet .expressions) w) cell
       ≡ valueOfWire (environmentOf values) (r .given .sheet .expressions) 0 w
   wire-valued values w l q =
       let es = r .given .sheet .expressions in

@@ -1,14 +1,14 @@
 -- How the code's turns along a list go into the checks 18 and 19, and its answers into the outcome.
 use Prim.Native.Nat.{ℕ, _+_, _≤_, _<_}
-use mathlib.Core.Path.{_≡_, refl, sym, ap, _∙_}
-use mathlib.Core.Bool.{Bool, true, false, not, _||_, or-false, or-true, true≢false}
-use mathlib.Core.List.{List, [], _∷_}
+use mathlib.Core.Path.{_≡_, sym, ap}
+use mathlib.Core.Bool.{Bool, true, false, not, _||_}
+use mathlib.Core.List.{List}
 use native.Mathlib.Numerals.{add-one}
 use native.Mathlib.Omega.{arith}
 use lib.Dec.{eqb, ltb}
 use lib.ListN.{length, take}
 use lib.Seq.{take-suc}
-use borrow.Author.Tests.{eq-eqb, ne-eqb, eqb-true, lt-ltb, le-ltb, ltb-true, not-false}
+use borrow.Author.Tests.{eq-eqb, ne-eqb, lt-ltb, le-ltb, ltb-true, not-false}
 use Rattle.sheet.specs.Outcomes.{result, lowest, unlessLength, unlessAny}
 use Rattle.sheet.specs.Sheets.{Sheet}
 use Rattle.sheet.specs.Laws.Lowest.{lowest-first}
@@ -16,8 +16,8 @@ use Rattle.sheet.specs.declared.Refusal.the-variants.{ScheduleLength, ScheduleE
 use Rattle.sheet_expressions.specs.Map.{HoldsJust}
 use Rattle.sheet_expressions.specs.Sets.{holds-none, holds-more, within-among}
 use Rattle.wires.specs.Sets.{member, TestsWithin}
-use Rattle.sheet.specs.Lists.{among, allAmong}
-use Rattle.sheet.specs.Laws.Lists.{both, neither, among-append}
+use Rattle.sheet.specs.Lists.{among}
+use Rattle.sheet.specs.Laws.Lists.{neither}
 use Rattle.kernel.specs.Instants.{readsAt}
 use Rattle.kernel.specs.Schedules.{entryAt, notNew, tooEarly, scheduleOf}
 use Rattle.schedule.specs.Orders.{orderedAnswer}

@@ -2,13 +2,14 @@
 use Prim.Native.Nat.{ℕ, _-_}
 use mathlib.Core.Bool.{cond, true, false}
 use mathlib.Core.List.{List, [], _∷_, _++_, map}
-use lib.ListN.{length, take, drop}
+use lib.ListN.{length, getD, take, drop}
 use lib.Dec.{ltb, eqb}
 use Rattle.sheet.specs.Data.{ValueType, typeOfByte}
-use Rattle.sheet.specs.Expressions.{Expression, CellForm, cellForms}
+use Rattle.sheet.specs.Expressions.{Expression, constant, CellForm, cellForms}
 use Rattle.sheet.specs.Outcomes.{Outcome, refusal, result, packedRefusal}
 use Rattle.sheet.specs.Readings.{Reading, refused, got, andThen, onRead, readEach, readExpression}
 use Rattle.sheet.specs.Headers.{sectionOf}
+use Rattle.sheet.specs.declared.Datum.the-variants.{Boolean}
 use Rattle.sheet.specs.declared.Refusal.the-variants.{SheetLength, TypeByte, OutputWire, LeftOver}
 use Rattle.sheet.specs.declared.Checked.{Checked}
 use Rattle.sheet.specs.declared.Checked.the-variants.{Refused, Passed}
@@ -23,6 +24,13 @@ pub record Sheet : Type 0 where
 unfoldable pub formsOf : List Expression → List CellForm
 formsOf [] = []
 formsOf (e ∷ es) = cellForms e ++ formsOf es
+
+-- the expression of wire w, and how many cells the wires before it own, which is the number of its first cell
+abbrev pub expressionAt : List Expression → ℕ → Expression
+expressionAt es w = getD es w (constant (Boolean false))
+
+abbrev pub cellsBefore : List Expression → ℕ → ℕ
+cellsBefore es w = length (formsOf (take w es))
 
 -- the cells of a sheet, in the order of their numbers
 abbrev pub sheetForms : Sheet → List CellForm

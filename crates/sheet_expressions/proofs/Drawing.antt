@@ -14,7 +14,7 @@ use Rattle.sheet.specs.Expressions.{Expression, constant, cellForms}
 use Rattle.sheet.specs.Lists.{among}
 use Rattle.sheet.specs.Reads.{wiresRead}
 use Rattle.sheet.specs.Readings.{erased, readEach, readExpression}
-use Rattle.sheet.specs.Sheets.{formsOf, before}
+use Rattle.sheet.specs.Sheets.{formsOf, expressionAt, cellsBefore, before}
 use Rattle.sheet.specs.Laws.Readings.{not-good, run-extent}
 use Rattle.sheet.specs.declared.Datum.the-variants.{Boolean}
 use Rattle.sheet.specs.declared.Read.{Read}
@@ -23,7 +23,7 @@ use Rattle.sheet.specs.declared.Read.the-variants.{Refused, Got}
 use Rattle.sheet_own.specs.Own.{Joins}
 use Rattle.sheet_expressions.specs.Map.{WiresRead, StartsAt, Entered, HoldsJust, EachHoldsJust, Checks, Mapped, Drawn}
 use Rattle.sheet_expressions.proofs.Noting.{entered-none, entered-append, pairs-length}
-use Rattle.sheet_expressions.proofs.Locating.{treeAt, Left, all-left, turn}
+use Rattle.sheet_expressions.proofs.Locating.{Left, all-left, turn}
 
 -- what is joined to the empty set is held alone
 joined-alone : {none : ℕ} (ws : List ℕ) {bits : ℕ} → ((k : ℕ) → member none k ≡ false) → Joins none ws bits → HoldsJust bits ws
@@ -47,7 +47,7 @@ module _ {s : List ℕ} {wires at : ℕ} (run : WiresRead s wires at) where
   pub record Drawing (w next count : ℕ) (places firsts reads before cells : List ℕ) : Type 0 where
     pub left : Left run w next count
     pub place : (v : ℕ) → v < w → StartsAt run v (getD places v 0) (getD firsts v 0)
-    pub read : EachHoldsJust reads w (λ v. wiresRead (treeAt (run .trees) v))
+    pub read : EachHoldsJust reads w (λ v. wiresRead (expressionAt (run .trees) v))
     pub noted : Entered s (formsOf (take w (run .trees))) 0 before cells
 
   pub nothing-drawn : {places firsts reads cells : List ℕ} → Drawing 0 at 0 places firsts reads cells cells
@@ -69,20 +69,20 @@ module _ {s : List ℕ} {wires at : ℕ} (run : WiresRead s wires at) where
       let count-is : here .here .count ≡ k = cc in
       let grown : w < length (run .trees) =
       omega (arith, run .sized, run-extent (run .inputs) (run .types) s 16 (run .types) at 0 (run .reads) .sized) in
-      let more-forms : formsOf (take (w + 1) (run .trees)) ≡ formsOf (take w (run .trees)) ++ cellForms (treeAt (run .trees) w) =
-      rw (add-one, take-suc (run .trees) w (constant (Boolean false)) grown) (forms-snoc (take w (run .trees)) (treeAt (run .trees) w)) in
-      let first : count ≡ 0 + length (formsOf (take w (run .trees))) = omega (arith, d .left .counted) in
+      let more-forms : formsOf (take (w + 1) (run .trees)) ≡ formsOf (take w (run .trees)) ++ cellForms (expressionAt (run .trees) w) =
+      rw (add-one, take-suc (run .trees) w (constant (Boolean false)) grown) (forms-snoc (take w (run .trees)) (expressionAt (run .trees) w)) in
+      let first : count ≡ 0 + cellsBefore (run .trees) w = omega (arith, d .left .counted) in
       record {
         left = rw (add-one, ← next-is, ← count-is) (here .behind);
         place = λ v l. set-below (λ v x. StartsAt run v x (getD (set firsts w count) v 0)) places w next inPlaces
             (λ v m. let other : v ≢ w = λ q. omega arith in rw (getD-set-other firsts w v count 0 other) (d .place v m))
             (rw (getD-set-same firsts w count 0 inFirsts) (here .here)) v l;
-        read = set-below (λ v x. HoldsJust x (wiresRead (treeAt (run .trees) v))) reads w bits inReads (d .read)
-            (joined-alone (wiresRead (treeAt (run .trees) w)) empty
-            (h .reads (treeAt (run .trees) w) (here .here .next) (here .here .count) (here .here .reads)));
+        read = set-below (λ v x. HoldsJust x (wiresRead (expressionAt (run .trees) v))) reads w bits inReads (d .read)
+            (joined-alone (wiresRead (expressionAt (run .trees) w)) empty
+            (h .reads (expressionAt (run .trees) w) (here .here .next) (here .here .count) (here .here .reads)));
         noted = rw more-forms
-            (entered-append (formsOf (take w (run .trees))) (cellForms (treeAt (run .trees) w)) first (d .noted)
-            (h .cells (treeAt (run .trees) w) (here .here .next) (here .here .count) (here .here .reads)));
+            (entered-append (formsOf (take w (run .trees))) (cellForms (expressionAt (run .trees) w)) first (d .noted)
+            (h .cells (expressionAt (run .trees) w) (here .here .next) (here .here .count) (here .here .reads)));
       }
 
   -- all of them

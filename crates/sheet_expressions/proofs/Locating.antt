@@ -8,13 +8,10 @@ use lib.ListN.{length, getD, take, drop, length-append}
 use lib.Seq.{drop-cons, take-suc}
 use Rattle.sheet.specs.Expressions.{Expression, constant, cellForms, cellCount}
 use Rattle.sheet.specs.Readings.{got, readEach, readExpression}
-use Rattle.sheet.specs.Sheets.{formsOf}
+use Rattle.sheet.specs.Sheets.{formsOf, expressionAt, cellsBefore}
 use Rattle.sheet_expressions.specs.Map.{WiresRead, StartsAt}
 use Rattle.sheet.specs.declared.Datum.the-variants.{Boolean}
 use Rattle.sheet.specs.Laws.Readings.{run-view, expression-extent, run-extent, forms-length}
-
-abbrev pub treeAt : List Expression → ℕ → Expression
-treeAt es w = getD es w (constant (Boolean false))
 
 -- an expression more brings its own cells
 forms-append : (es : List Expression) (e : Expression) → length (formsOf (es ++ (e ∷ []))) ≡ length (formsOf es) + cellCount e
@@ -27,7 +24,7 @@ forms-append (a ∷ es) e =
 pub record Left {s : List ℕ} {wires at : ℕ} (run : WiresRead s wires at) (w next count : ℕ) : Type 0 where
   pub reads : readEach (readExpression (run .inputs) (run .types) s 16) (drop w (run .types)) next count
       ≡ got (drop w (run .trees)) (run .next) (run .count)
-  pub counted : count ≡ length (formsOf (take w (run .trees)))
+  pub counted : count ≡ cellsBefore (run .trees) w
 
 pub all-left : {s : List ℕ} {wires at : ℕ} (run : WiresRead s wires at) → Left run 0 at 0
 unfolding formsOf
@@ -48,11 +45,11 @@ turn {s} {wires} {at} run {w} {next} {count} left more =
     let each = rw (drop-cons (run .types) w 0) at (left .reads) in
     let v = run-view read (getD (run .types) w 0) (drop (suc w) (run .types)) next count each in
     let trees = drop-cons (run .trees) w (constant (Boolean false)) grown in
-    let head : v .head ≡ treeAt (run .trees) w = cc in
+    let head : v .head ≡ expressionAt (run .trees) w = cc in
     let tail : v .tail ≡ drop (suc w) (run .trees) = cc in
     let extent = expression-extent (run .inputs) (run .types) s 16 (getD (run .types) w 0) next count (v .first) in
-    let forms : length (formsOf (take (suc w) (run .trees))) ≡ length (formsOf (take w (run .trees))) + cellCount (v .head) =
-    rw (take-suc (run .trees) w (constant (Boolean false)) grown, head) (forms-append (take w (run .trees)) (treeAt (run .trees) w)) in
+    let forms : cellsBefore (run .trees) (suc w) ≡ cellsBefore (run .trees) w + cellCount (v .head) =
+    rw (take-suc (run .trees) w (constant (Boolean false)) grown, head) (forms-append (take w (run .trees)) (expressionAt (run .trees) w)) in
     record {
       here = record { next = v .next; count = v .count; reads = rw head at (v .first); first = left .counted };
       behind = record { reads = rw tail at (v .rest); counted = omega (arith, extent .counted, left .counted) };

@@ -3,23 +3,21 @@
 -- hold beyond the wires and the cells, and after a refusal, is free: nobody reads it.
 use Prim.Native.Nat.{ℕ, _/_, _%_, _≤_, _<_}
 use mathlib.Core.Path.{_≡_, refl}
-use mathlib.Core.Bool.{false}
 use mathlib.Core.List.{List}
 use lib.ListN.{length, getD, take}
 use lib.Seq.{sets}
 use Rattle.wires.specs.Sets.{member}
-use Rattle.sheet.specs.Expressions.{Expression, CellForm, constant}
+use Rattle.sheet.specs.Expressions.{Expression, CellForm}
 use Rattle.sheet.specs.Kinds.{kindCount}
 use Rattle.sheet.specs.Lists.{among}
 use Rattle.sheet.specs.Reads.{wiresRead}
 use Rattle.sheet.specs.Readings.{Reading, got, erased, readEach, readExpression, bodyAt, Whole}
-use Rattle.sheet.specs.Sheets.{Sheet, formsOf, before}
+use Rattle.sheet.specs.Sheets.{Sheet, formsOf, expressionAt, cellsBefore, before}
 use Rattle.sheet.specs.Memory.{formByte, ownCell}
 use Rattle.sheet.specs.Typing.{Pairwise}
 use Rattle.sheet.specs.Laws.Headers.{SheetRead}
 use Rattle.sheet_names.specs.Naming.{Naming}
 use Rattle.sheet_own.specs.Own.{Joins}
-use Rattle.sheet.specs.declared.Datum.the-variants.{Boolean}
 use Rattle.sheet.specs.declared.Read.{Read}
 use Rattle.sheet.specs.declared.Read.the-variants.{Refused, Got}
 
@@ -38,8 +36,8 @@ pub record StartsAt {s : List ℕ} {wires at : ℕ} (run : WiresRead s wires at)
   pub next : ℕ
   pub count : ℕ
   pub reads : readExpression (run .inputs) (run .types) s 16 (getD (run .types) w 0) place cell
-      ≡ got (getD (run .trees) w (constant (Boolean false))) next count
-  pub first : cell ≡ length (formsOf (take w (run .trees)))
+      ≡ got (expressionAt (run .trees) w) next count
+  pub first : cell ≡ cellsBefore (run .trees) w
 
 -- the entry of a cell: four times the place of its owner's kind byte, and its form
 abbrev pub ownerIn : ℕ → ℕ
@@ -94,7 +92,7 @@ pub record WiresLookup (types names : List ℕ) : Type 0 where
 -- what holds of a map: each wire starts where it says and reads what it says
 pub record Sited {s : List ℕ} {wires at : ℕ} (run : WiresRead s wires at) (places firsts reads : List ℕ) : Type 0 where
   pub wire : (w : ℕ) → w < wires → StartsAt run w (getD places w 0) (getD firsts w 0)
-  pub read : EachHoldsJust reads wires (λ w. wiresRead (getD (run .trees) w (constant (Boolean false))))
+  pub read : EachHoldsJust reads wires (λ w. wiresRead (expressionAt (run .trees) w))
 
 -- and each cell was noted
 pub record Mapped {s : List ℕ} {wires at : ℕ} (run : WiresRead s wires at) (places firsts reads cells : List ℕ) : Type 0 where

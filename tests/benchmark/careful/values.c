@@ -34,12 +34,30 @@
 
 #define SIGN UINT32_C(0x80000000)
 
+/* The end on the side of a number's sign: a sum that does not fit has passed the end on the side of its operands. */
+static inline uint32_t end_of(uint32_t number)
+{
+    return (number >> 31) + (SIGN - 1);
+}
+
+static inline uint32_t sum_of(uint32_t first, uint32_t second)
+{
+    int32_t sum;
+    return __builtin_add_overflow((int32_t)first, (int32_t)second, &sum) ? end_of(first) : (uint32_t)sum;
+}
+
+static inline uint32_t difference_of(uint32_t first, uint32_t second)
+{
+    int32_t difference;
+    return __builtin_sub_overflow((int32_t)first, (int32_t)second, &difference) ? end_of(first) : (uint32_t)difference;
+}
+
 WITH_ONE_OPERAND(not, operand ^ 1u)
-WITH_ONE_OPERAND(negate, 0u - operand)
+WITH_ONE_OPERAND(negate, difference_of(0, operand))
 WITH_TWO_OPERANDS(and, first & second)
 WITH_TWO_OPERANDS(or, first | second)
-WITH_TWO_OPERANDS(add, first + second)
-WITH_TWO_OPERANDS(subtract, first - second)
+WITH_TWO_OPERANDS(add, sum_of(first, second))
+WITH_TWO_OPERANDS(subtract, difference_of(first, second))
 WITH_TWO_OPERANDS(less, (first ^ SIGN) < (second ^ SIGN))
 WITH_TWO_OPERANDS(equal, first == second)
 

@@ -1,6 +1,6 @@
 -- `closed` meets its contract: a copy of the relation is closed. The loop's invariant: the rows passed are copied.
 use Prim.Native.Nat.{ℕ, _≤_, _<_, _-_}
-use mathlib.Core.Path.{_≡_, refl, _∙_}
+use mathlib.Core.Path.{_≡_, refl}
 use native.Mathlib.Omega.{arith}
 use lib.ListN.{length, getD, length-set}
 use Rattle.closure.proofs.Turns.{copied-next, copied-rows}

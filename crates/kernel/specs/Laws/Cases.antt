@@ -1,11 +1,11 @@
 -- The table of worked cases holds, and the scheduled instant is refused on every list for the sheet of case L.
-use mathlib.Core.Path.{_≡_, refl, sym, ap, subst, _∙_}
+use mathlib.Core.Path.{_≡_, refl, sym, ap, _∙_}
 use Prim.Native.Nat.{ℕ, zero, suc}
 use native.Mathlib.Omega.{arith}
 use mathlib.Core.Bool.{true}
 use mathlib.Core.List.{List, [], _∷_}
 use lib.IntN.{pos}
-use Rattle.numbers.specs.Numbers.{lowBits, settled, equals}
+use Rattle.numbers.specs.Numbers.{settled, equals}
 use Rattle.sheet.specs.Data.{boolean, number}
 use Rattle.sheet.specs.Expressions.{constant, wire, input, unary, binary, choose, cellForms, cellCount}
 use Rattle.sheet.specs.Expressions.{negative, sum, Choice, conditional, present}
@@ -41,7 +41,7 @@ use Rattle.kernel.specs.declared.Scheduled.{Scheduled}
 use Rattle.kernel.specs.declared.Scheduled.the-variants.{Refused}
 
 pub table-holds : all holds table ≡ true
-unfolding lowBits settled equals cellForms cellCount meaningOf operandsOf lowest
+unfolding settled equals cellForms cellCount meaningOf operandsOf lowest
     readEach namesOf bodyFrom ownOf readExpression fieldOf bytesOf sectionOf formsOf outputsFrom wiresFrom readSheet sheetOf
     memoryBytes invalidAt cellsFrom memoryOf startMemory startOutcome startCall rowBytes wrongAt dataFrom inputsOf
     sameDatum sameValue sameValues among allAmong wiresRead value kept stored
@@ -82,7 +82,7 @@ crossed-reads (suc (suc (suc (suc zero)))) = refl
 crossed-reads (suc (suc (suc (suc (suc w))))) = refl
 
 crossed-unknown : valueAt (finished (crossed conditional) (Boolean true ∷ Number (pos 5) ∷ []) []) 0 ≡ Unknown
-unfolding lowBits settled equals lowest sameDatum sameValue sameValues cellCount value
+unfolding settled equals lowest sameDatum sameValue sameValues cellCount value
     System.after System.unchanged System.rounds System.finished values round finished
 crossed-unknown = refl
 

@@ -2,16 +2,18 @@
 -- their wiresRead are.
 use mathlib.Core.Path.{_≡_, refl, ap}
 use Prim.Native.Nat.{ℕ, zero, suc, _+_, _<_}
+use native.Mathlib.Nat.{add-zero}
 use native.Mathlib.Omega.{arith}
 use mathlib.Core.Bool.{false}
 use mathlib.Core.List.{List, [], _∷_}
-use lib.ListN.{length}
+use lib.ListN.{length, take, length-append}
 use Rattle.kernel.specs.Values.{IsKnown}
 use Rattle.kernel.specs.Order.{_⊑_, unknown, _⊑*_, valueAt}
 use Rattle.sheet.specs.Lists.{Every}
-use Rattle.kernel.specs.Instant.{Environment, under}
-use Rattle.sheet.specs.Expressions.{Expression, cellCount}
-use Rattle.sheet.specs.Sheets.{Sheet}
+use Rattle.kernel.specs.Instant.{Environment, under, value}
+use Rattle.sheet.specs.Expressions.{Expression, cellForms, cellCount}
+use Rattle.sheet.specs.Sheets.{Sheet, formsOf, expressionAt, cellsBefore}
+use Rattle.sheet.specs.Laws.Readings.{forms-length}
 use Rattle.sheet.specs.declared.Cell.{Cell}
 use Rattle.sheet.specs.Reads.{wiresRead, inputsRead}
 use Rattle.kernel.specs.Instants.{wireCount, readsAt, valueOfWire, values, round}
@@ -21,6 +23,20 @@ use Rattle.kernel.specs.Laws.Knowing.{value-known}
 use Rattle.sheet.specs.declared.Datum.{Datum}
 use Rattle.kernel.specs.declared.Value.{Value}
 use Rattle.kernel.specs.declared.Value.the-variants.{Unknown}
+
+-- the cells behind those of the first expression
+pub behind-first : (e : Expression) (es : List Expression) (k w : ℕ)
+    → k + cellsBefore (e ∷ es) (suc w) ≡ k + cellCount e + cellsBefore es w
+unfolding formsOf
+behind-first e es k w = omega (arith, length-append (cellForms e) (formsOf (take w es)), forms-length e)
+
+-- the value of a wire, by its expression and the number of its first cell
+pub value-of-wire : (now : Environment) (es : List Expression) (k w : ℕ) → w < length es
+    → valueOfWire now es k w ≡ value now false (expressionAt es w) (k + cellsBefore es w)
+unfolding valueOfWire formsOf
+value-of-wire now [] k w l = absurd (omega arith)
+value-of-wire now (e ∷ es) k zero l = rw add-zero
+value-of-wire now (e ∷ es) k (suc w) l = rw (behind-first e es k w) (value-of-wire now es (k + cellCount e) w (omega arith))
 
 -- Wire by wire, over the expressions in wire order.
 module _ (now : Environment) where

@@ -2,23 +2,22 @@
 use mathlib.Core.Path.{_≡_, refl, subst}
 use Prim.Native.Nat.{ℕ, zero, suc, _<_}
 use native.Mathlib.Omega.{arith}
-use mathlib.Core.Bool.{true, false}
+use mathlib.Core.Bool.{true}
 use mathlib.Core.List.{List, [], _∷_}
-use lib.ListN.{length, getD}
+use lib.ListN.{length}
 use Rattle.sheet.specs.Data.{ValueType}
-use Rattle.sheet.specs.Expressions.{Expression, constant}
+use Rattle.sheet.specs.Expressions.{Expression}
 use Rattle.sheet.specs.Lists.{among, Every, none}
 use Rattle.sheet.specs.Reads.{wiresRead}
-use Rattle.sheet.specs.Sheets.{Sheet}
+use Rattle.sheet.specs.Sheets.{Sheet, expressionAt}
 use Rattle.sheet.specs.Typing.{HaveTypes, WellTyped, done, _then_}
 use Rattle.sheet.specs.Laws.Lists.{never, every-holds}
 use Rattle.sheet.specs.Laws.Memory.{pairwise-length}
 use Rattle.sheet.specs.Laws.Reads.{typed-reads}
-use Rattle.sheet.specs.declared.Datum.the-variants.{Boolean}
 use Rattle.kernel.specs.Instants.{wireCount, readsAt}
 
 -- the reads of a wire are those of its tree
-pub reads-of-tree : (trees : List Expression) (w : ℕ) → readsAt trees w ≡ wiresRead (getD trees w (constant (Boolean false)))
+pub reads-of-tree : (trees : List Expression) (w : ℕ) → readsAt trees w ≡ wiresRead (expressionAt trees w)
 unfolding readsAt wiresRead
 reads-of-tree [] w = refl
 reads-of-tree (e ∷ es) zero = refl

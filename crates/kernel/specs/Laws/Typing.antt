@@ -8,7 +8,7 @@ use mathlib.Core.Option.{some}
 use mathlib.Core.List.{List, [], _∷_, _++_}
 use lib.IntN.{negℤ, _+ℤ_, _-ℤ_}
 use lib.ListN.{length, getElem?}
-use Rattle.numbers.specs.Laws.{settled-fits}
+use Rattle.numbers.specs.Laws.Nearest.{settled-fits}
 use Rattle.sheet.specs.Data.{ValueType, boolean, IsOf}
 use Rattle.sheet.specs.Expressions.{Expression, constant, wire, input, unary, binary, choose, reset, pre, fby}
 use Rattle.sheet.specs.Expressions.{Unary, negation, negative}

@@ -1,5 +1,4 @@
 -- `answered` meets its contract: the lowest wire that reaches itself is looked for only where a wire was left out.
-use mathlib.Core.Path.{ap}
 use borrow.Author.Needs.{needs}
 use Rattle.maker.proofs.answered.Statement.{statement}
 use Rattle.maker.proofs.answered.Tie as tie

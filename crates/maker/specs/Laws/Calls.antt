@@ -2,7 +2,7 @@
 -- along which every scheduled instant agrees with the rounds; 21 comes exactly if no list passes 18 and 19, at the lowest wire that
 -- reaches itself; and it refuses with no other numbers than 1 to 11, 17 and 21.
 use mathlib.Core.Path.{_≡_, refl, sym, subst, _∙_}
-use Prim.Native.Nat.{ℕ, _≤_, _<_}
+use Prim.Native.Nat.{ℕ, _≤_}
 use native.Mathlib.Omega.{arith}
 use mathlib.Core.Bool.{Bool, true, false, cond}
 use mathlib.Core.List.{List}
@@ -10,9 +10,8 @@ use mathlib.Core.Logic.{_⊎_, inl, inr, _↔_}
 use lib.Dec.{eqb, ltb}
 use lib.ListN.{length}
 use borrow.Author.Tests.{eqb-true, eqb-false, ltb-true}
-use Rattle.sheet.specs.Outcomes.{Outcome, refusal, result, followedBy, lowest, numberOf, unlessLength, unlessAny}
+use Rattle.sheet.specs.Outcomes.{Outcome, refusal, result, followedBy, lowest, numberOf, unlessAny}
 use Rattle.sheet.specs.Sheets.{Sheet, sheetOf}
-use Rattle.sheet.specs.Typing.{WellTyped}
 use Rattle.sheet.specs.Laws.Lists.{never}
 use Rattle.sheet.specs.Laws.Outcomes.{same-result}
 use Rattle.sheet.specs.Laws.Refusals.{OutcomeWithin, refusal-within, sheet-of-within}

@@ -3,8 +3,8 @@
 use mathlib.Core.Path.{_≡_, refl, sym, ap, _∙_}
 use Prim.Native.Nat.{ℕ, zero, suc, _≤_, _<_}
 use native.Mathlib.Omega.{arith}
-use mathlib.Core.Bool.{Bool, true, false, not, _&&_}
-use mathlib.Core.List.{List, [], _∷_, _++_}
+use mathlib.Core.Bool.{Bool, true, false, not}
+use mathlib.Core.List.{List, []}
 use lib.Dec.{eqb, ltb}
 use lib.ListN.{length, take, getD, length-append}
 use lib.Seq.{take-append-le, take-all, getD-take, getD-at}
@@ -14,7 +14,7 @@ use Rattle.sheet.specs.Outcomes.{lowest}
 use Rattle.sheet.specs.Laws.Lists.{both, some-missing}
 use Rattle.sheet.specs.Laws.Lowest.{lowest-found, lowest-first, lowest-none}
 use Rattle.closure.specs.Closures.{Closure}
-use Rattle.closure.specs.Laws.{Loop, some-loop}
+use Rattle.closure.specs.Laws.{some-loop}
 use Rattle.kernel.specs.Schedules.{entryAt}
 use Rattle.kernel.specs.Laws.Schedules.{named-earlier}
 use Rattle.kernel.specs.Laws.Pigeonhole.{at-least}

@@ -2,7 +2,7 @@
 use mathlib.Core.Path.{_≡_, refl, sym, ap, subst, _∙_}
 use Prim.Native.Nat.{ℕ, _≤_, _<_}
 use native.Mathlib.Omega.{arith}
-use mathlib.Core.Bool.{Bool, true, false, not, _&&_, _||_, or-true, or-false, cond}
+use mathlib.Core.Bool.{Bool, true, false, not, _&&_, _||_, or-true, or-false}
 use mathlib.Core.List.{List, [], _∷_, _++_}
 use mathlib.Core.Logic.{_⊎_, inl, inr, ⊎-elim}
 use lib.Dec.{eqb}
@@ -12,7 +12,7 @@ use borrow.Author.Tests.{eqb-true, eqb-false, eq-eqb, ne-eqb, not-true}
 use Rattle.wires.specs.Sets.{member, LowestPresent}
 use Rattle.sheet.specs.Lists.{among, allAmong}
 use Rattle.sheet.specs.Outcomes.{lowest}
-use Rattle.sheet.specs.Laws.Lists.{never, both, either, neither, among-append, among-head, each-among, among-each}
+use Rattle.sheet.specs.Laws.Lists.{never, both, either, neither, among-append, each-among, among-each}
 use Rattle.sheet.specs.Laws.Lowest.{lowest-is}
 use Rattle.maker.specs.Making.{ready}
 use Rattle.maker.specs.Queue.{Unplaced, Awaits, Queue}

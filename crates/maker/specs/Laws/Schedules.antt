@@ -15,7 +15,7 @@ use Rattle.sheet.specs.Outcomes.{lowest}
 use Rattle.sheet.specs.Sheets.{Sheet}
 use Rattle.sheet.specs.Typing.{WellTyped}
 use Rattle.sheet.specs.Laws.Lists.{never, neither, every-holds}
-use Rattle.sheet.specs.Laws.Lowest.{lowest-found, lowest-first, lowest-none, lowest-below, none-lowest}
+use Rattle.sheet.specs.Laws.Lowest.{lowest-found, lowest-first, lowest-below, none-lowest}
 use Rattle.closure.specs.Closures.{one, _then_, Tells}
 use Rattle.closure.specs.Laws.{through-leads, leads-through}
 use Rattle.kernel.specs.Instants.{wireCount}

@@ -15,8 +15,7 @@ use mir.Facts.{ofZ-toZ}
 use Rattle.numbers.specs.Words.{wordBytes}
 use Rattle.numbers.specs.Laws.{word-bound}
 use Rattle.sheet.specs.Data.{ValueType, boolean, number, typeOfByte, standsFor, datumOf, wordOf}
-use Rattle.sheet.specs.Expressions.{Expression, CellForm, constant, fbyCell}
-use Rattle.sheet.specs.Reads.{wiresRead}
+use Rattle.sheet.specs.Expressions.{Expression, CellForm, fbyCell}
 use Rattle.sheet.specs.Readings.{got, readEach, readExpression}
 use Rattle.sheet.specs.Outcomes.{result}
 use Rattle.sheet.specs.Memory.{startsEmpty, cellBytes, markAt, cellWordAt, readCell, validCell, cellsFrom, memoryOf}
@@ -28,7 +27,6 @@ use Rattle.sheet.specs.Laws.Typing.{passed-check}
 use Rattle.sheet.specs.Laws.Memory.{memory-view}
 use Rattle.sheet.specs.declared.Cell.{Cell}
 use Rattle.sheet.specs.declared.Cell.the-variants.{NotStarted, Started}
-use Rattle.sheet.specs.declared.Datum.the-variants.{Boolean}
 use Rattle.sheet_expressions.specs.Map.{StartsAt, EachHoldsJust, Sited, wiresOf, runOf}
 use Rattle.kernel.specs.Instant.{inputAt, cellAt}
 use Rattle.kernel.specs.Instants.{readsAt}

@@ -1,0 +1,141 @@
+-- Document 02, K2: add, subtract and negate stop at the ends. What one of them gives is the nearest number of 32 bits to the exact result
+-- of its operands' numbers: wherever the expression stands, and of every wire in an accepted instant, from the answer of the call.
+use Prim.Native.Nat.{ℕ, zero, suc, _+_, _<_}
+use mathlib.Core.Path.{_≡_, refl, sym, ap, _∙_}
+use mathlib.Core.Bool.{Bool, false}
+use mathlib.Core.List.{List, _++_}
+use native.Mathlib.Nat.{zero-add, add-zero}
+use native.Mathlib.Omega.{arith}
+use lib.IntN.{ℤ, negℤ, _+ℤ_, _-ℤ_}
+use lib.ListN.{length}
+use Rattle.numbers.specs.Laws.Nearest.{Nearest, settled-nearest}
+use Rattle.sheet.specs.Data.{ValueType, number}
+use Rattle.sheet.specs.Expressions.{Expression, unary, binary, negative, sum, difference, cellForms, cellCount}
+use Rattle.sheet.specs.Sheets.{formsOf, expressionAt, cellsBefore}
+use Rattle.sheet.specs.Typing.{done, _then_, HasType, HaveTypes, ValidRow}
+use Rattle.sheet.specs.declared.Cell.{Cell}
+use Rattle.sheet.specs.declared.Datum.the-variants.{Boolean, Number}
+use Rattle.kernel.specs.Values.{Has, has}
+use Rattle.kernel.specs.Order.{valueAt}
+use Rattle.kernel.specs.Instant.{Environment, under, value}
+use Rattle.kernel.specs.Systems.{Full, Solution}
+use Rattle.kernel.specs.Instants.{wireCount, finished}
+use Rattle.kernel.specs.Calls.{roundsCall}
+use Rattle.kernel.specs.Laws.Instants.{behind-first, value-of-wire, round-at}
+use Rattle.kernel.specs.Laws.Typing.{OnWires, ValidFrom, parts, valid-from-start, has-inherited, value-typed}
+use Rattle.kernel.specs.Laws.Solutions.{finished-solution}
+use Rattle.kernel.specs.Laws.Memory.{finished-has, given-valid}
+use Rattle.kernel.specs.Laws.Answers.{AcceptedAfter, demand2-answered}
+use Rattle.kernel.specs.declared.Value.{Value}
+use Rattle.kernel.specs.declared.Value.the-variants.{Known}
+use Rattle.kernel.specs.declared.InRounds.the-variants.{Accepted}
+
+-- the expressions that the request speaks of
+pub data Sums : Expression → Type 0 where
+  adds : {e f : Expression} → Sums (binary sum e f)
+  subtracts : {e f : Expression} → Sums (binary difference e f)
+  negates : {e : Expression} → Sums (unary negative e)
+
+-- two operands have the numbers a and b; the first one's cells are those from number k on, the second one's come behind them
+pub record Operands (now : Environment) (fresh : Bool) (k : ℕ) (e f : Expression) (a b : ℤ) : Type 0 where
+  pub left : value now fresh e k ≡ Known (Number a)
+  pub right : value now fresh f (k + cellCount e) ≡ Known (Number b)
+
+-- z is the exact result of such an expression
+pub data Exact (now : Environment) (fresh : Bool) (k : ℕ) : Expression → ℤ → Type 0 where
+  added : {e f : Expression} {a b : ℤ} → Operands now fresh k e f a b → Exact now fresh k (binary sum e f) (a +ℤ b)
+  subtracted : {e f : Expression} {a b : ℤ} → Operands now fresh k e f a b → Exact now fresh k (binary difference e f) (a -ℤ b)
+  negated : {e : Expression} {a : ℤ} → value now fresh e k ≡ Known (Number a) → Exact now fresh k (unary negative e) (negℤ a)
+
+-- the value is a number, the nearest of 32 bits to z
+pub data Stops (z : ℤ) : Value → Type 0 where
+  stops : {y : ℤ} → Nearest z y → Stops z (Known (Number y))
+
+pub exact-stops : {now : Environment} {fresh : Bool} {k : ℕ} {e : Expression} {z : ℤ} → Exact now fresh k e z
+    → Stops z (value now fresh e k)
+unfolding value
+exact-stops (added {a = a} {b = b} o) = rw (o .left, o .right) (stops (settled-nearest (a +ℤ b)))
+exact-stops (subtracted {a = a} {b = b} o) = rw (o .left, o .right) (stops (settled-nearest (a -ℤ b)))
+exact-stops (negated {a = a} p) = rw p (stops (settled-nearest (negℤ a)))
+
+-- There is an exact result where the wires have values of their types and the cells are valid.
+a-number : {v : Value} → Has number v → (a : ℤ) × (v ≡ Known (Number a))
+a-number (has {d = Boolean b} e) = absurd e
+a-number (has {d = Number a} e) = (a, refl)
+
+module _ (inputTypes wireTypes : List ValueType) (now : Environment)
+    (onInputs : ValidRow inputTypes (now .inputs)) (onWires : OnWires Has wireTypes (now .wires)) where
+  number-of : (e : Expression) (fresh : Bool) (k : ℕ) → HasType inputTypes wireTypes number e
+      → ValidFrom (now .memory) (cellForms e) k → (a : ℤ) × (value now fresh e k ≡ Known (Number a))
+  number-of e fresh k typed cells =
+      a-number (value-typed Has has-inherited inputTypes wireTypes now onInputs onWires number e fresh k typed cells)
+
+  numbers-of : (e f : Expression) (fresh : Bool) (k : ℕ) → HasType inputTypes wireTypes number e → HasType inputTypes wireTypes number f
+      → ValidFrom (now .memory) (cellForms e ++ cellForms f) k → (a : ℤ) × (b : ℤ) × Operands now fresh k e f a b
+  numbers-of e f fresh k left right cells =
+      let (before, behind) = parts (now .memory) e (cellForms f) k cells in
+      let (a, p) = number-of e fresh k left before in
+      let (b, q) = number-of f fresh (k + cellCount e) right behind in
+      (a, b, record { left = p; right = q })
+
+  exact-of : {e : Expression} → Sums e → (fresh : Bool) (k : ℕ) (t : ValueType) → HasType inputTypes wireTypes t e
+      → ValidFrom (now .memory) (cellForms e) k → (z : ℤ) × Exact now fresh k e z
+  unfolding HasType cellForms
+  exact-of (adds {e} {f}) fresh k t typed cells =
+      let (a, b, o) = numbers-of e f fresh k (typed .1) (typed .2) cells in (a +ℤ b, added o)
+  exact-of (subtracts {e} {f}) fresh k t typed cells =
+      let (a, b, o) = numbers-of e f fresh k (typed .1) (typed .2) cells in (a -ℤ b, subtracted o)
+  exact-of (negates {e}) fresh k t typed cells = let (a, p) = number-of e fresh k (typed .1) cells in (negℤ a, negated p)
+
+-- the expression of a wire has a type, and its cells are valid
+wire-typed : (inputTypes wireTypes : List ValueType) (memory : List Cell) {ts : List ValueType} {es : List Expression} (k w : ℕ)
+    → HaveTypes inputTypes wireTypes ts es → ValidFrom memory (formsOf es) k → w < length es
+    → ((t : ValueType) × HasType inputTypes wireTypes t (expressionAt es w))
+    × ValidFrom memory (cellForms (expressionAt es w)) (k + cellsBefore es w)
+unfolding formsOf
+wire-typed inputTypes wireTypes memory k w done cells l = absurd (omega arith)
+wire-typed inputTypes wireTypes memory k zero (_then_ {x = t} {y = e} {ys = es} typed rest) cells l =
+    ((t, typed), rw add-zero (parts memory e (formsOf es) k cells .0))
+wire-typed inputTypes wireTypes memory k (suc w) (_then_ {y = e} {ys = es} typed rest) cells l =
+    rw (behind-first e es k w)
+    (wire-typed inputTypes wireTypes memory (k + cellCount e) w rest (parts memory e (formsOf es) k cells .1) (omega arith))
+
+module _ (s memory input output : List ℕ) {r : ℕ} (accepted : roundsCall s memory input output .answer ≡ Accepted r) where
+  -- what the answer says by demand 2
+  abbrev pub solved : AcceptedAfter s memory input output r
+  solved = demand2-answered s memory input output .accepted r accepted
+
+  -- the wires' expressions, and what they are worked out under in the end
+  abbrev pub equations : List Expression
+  equations = solved .given .sheet .expressions
+
+  abbrev pub final : Environment
+  final = under (solved .given .inputs) (solved .given .memory) (solved .values)
+
+  -- each wire has the value of its expression
+  pub wire-holds : (w : ℕ) → w < length equations
+      → valueAt (solved .values) w ≡ value final false (expressionAt equations w) (cellsBefore equations w)
+  unfolding Solution
+  wire-holds w l =
+      ap (λ (xs : List Value). valueAt xs w) (sym (solved .least .solves))
+      ∙ round-at (solved .given .sheet) (solved .given .inputs) (solved .given .memory) (solved .values) w
+      ∙ value-of-wire final equations 0 w l
+      ∙ rw zero-add
+
+  -- each wire that adds, subtracts or negates has an exact result, and its value is the nearest number
+  pub wire-stops : (w : ℕ) → w < length equations → Sums (expressionAt equations w)
+      → (z : ℤ) × Exact final false (cellsBefore equations w) (expressionAt equations w) z × Stops z (valueAt (solved .values) w)
+  wire-stops w l sums =
+      let given = solved .given in
+      let sheet = given .sheet in
+      let valid = given-valid s memory input output given (solved .passes) in
+      let ends = finished sheet (given .inputs) (given .memory) in
+      let same : ends ≡ solved .values = solved .only ends (finished-solution sheet (given .inputs) (given .memory)) in
+      let full : Full (wireCount sheet) ends = rw same (solved .full) in
+      let wires : OnWires Has (sheet .wireTypes) (solved .values) =
+      rw same at (finished-has sheet (given .inputs) (given .memory) (valid .sheet) (valid .inputs) (valid .memory) full) in
+      let ((t, typed), cells) =
+      wire-typed (sheet .inputTypes) (sheet .wireTypes) (given .memory) 0 w (valid .sheet) (valid-from-start (valid .memory)) l in
+      let (z, exact) = exact-of (sheet .inputTypes) (sheet .wireTypes) final (valid .inputs) wires sums false
+      (cellsBefore equations w) t typed (rw zero-add at cells) in
+      (z, exact, rw (wire-holds w l) (exact-stops exact))

@@ -94,10 +94,11 @@ void run_table(const struct table *table, struct tally *tally)
 {
     for (size_t index = 0; index < table->count; index++) {
         const struct row *const row = &table->rows[index];
-        /* A sheet that the check refuses is refused alike by all the others. */
+        /* A sheet that the check refuses is refused alike by all the others; and each instant in rounds is previewed. */
         const bool by_all = row->call == call_check && row->refused != 0;
+        const unsigned first = row->call == call_rounds ? call_preview : row->call;
         const unsigned last = by_all ? calls - 1 : row->call;
-        for (unsigned call = row->call; call <= last; call++) {
+        for (unsigned call = first; call <= last; call++) {
             if (passes(row, call))
                 tally->passed++;
             else

@@ -8,7 +8,7 @@
 #include <stddef.h>
 #include <stdint.h>
 
-enum call { call_check, call_start, call_rounds, call_scheduled, call_make, calls };
+enum call { call_check, call_start, call_preview, call_rounds, call_scheduled, call_make, calls };
 
 enum role { role_sheet, role_memory, role_input, role_output, role_schedule, roles };
 
@@ -24,20 +24,22 @@ struct call_rules {
 };
 
 #define REFUSALS_FROM_TO(first, last) ((UINT32_C(2) << (last)) - (UINT32_C(1) << (first)))
+#define REFUSALS_IN_ROUNDS (REFUSALS_FROM_TO(1, 16) | REFUSALS_FROM_TO(20, 20))
 #define WRITES_MEMORY (UINT32_C(1) << role_memory)
-#define WRITES_MEMORY_AND_OUTPUT (WRITES_MEMORY | UINT32_C(1) << role_output)
+#define WRITES_OUTPUT (UINT32_C(1) << role_output)
 #define WRITES_SCHEDULE (UINT32_C(1) << role_schedule)
 
 static const struct call_rules rules_of[calls] = {
     [call_check] = {"check", REFUSALS_FROM_TO(1, 11), 0},
     [call_start] = {"start", REFUSALS_FROM_TO(1, 12), WRITES_MEMORY},
-    [call_rounds] = {"rounds", REFUSALS_FROM_TO(1, 16) | REFUSALS_FROM_TO(20, 20), WRITES_MEMORY_AND_OUTPUT},
-    [call_scheduled] = {"scheduled", REFUSALS_FROM_TO(1, 19), WRITES_MEMORY_AND_OUTPUT},
+    [call_preview] = {"preview", REFUSALS_IN_ROUNDS, WRITES_OUTPUT},
+    [call_rounds] = {"rounds", REFUSALS_IN_ROUNDS, WRITES_MEMORY | WRITES_OUTPUT},
+    [call_scheduled] = {"scheduled", REFUSALS_FROM_TO(1, 19), WRITES_MEMORY | WRITES_OUTPUT},
     [call_make] = {"make", REFUSALS_FROM_TO(1, 11) | REFUSALS_FROM_TO(17, 17) | REFUSALS_FROM_TO(21, 21), WRITES_SCHEDULE},
 };
 
-/* What a call is given; the check takes the sheet alone, the start sheet and memory, the rounds all but the schedule, and the maker
- * sheet and schedule. */
+/* What a call is given; the check takes the sheet alone, the start sheet and memory, preview and rounds all but the schedule, and
+ * the maker sheet and schedule. */
 struct arguments {
     struct {
         uint8_t *bytes;
@@ -48,6 +50,7 @@ struct arguments {
 struct implementation {
     uint32_t (*check)(const uint8_t *, size_t);
     uint32_t (*start)(const uint8_t *, size_t, uint8_t *, size_t);
+    uint32_t (*preview)(const uint8_t *, size_t, const uint8_t *, size_t, const uint8_t *, size_t, uint8_t *, size_t);
     uint32_t (*rounds)(const uint8_t *, size_t, uint8_t *, size_t, const uint8_t *, size_t, uint8_t *, size_t);
     uint32_t (*scheduled)(const uint8_t *, size_t, uint8_t *, size_t, const uint8_t *, size_t, uint8_t *, size_t, const uint8_t *,
                           size_t);
@@ -64,6 +67,8 @@ static inline uint32_t run(const struct implementation *implementation, enum cal
         return implementation->check(ARGUMENT(role_sheet));
     case call_start:
         return implementation->start(ARGUMENT(role_sheet), ARGUMENT(role_memory));
+    case call_preview:
+        return implementation->preview(ARGUMENT(role_sheet), ARGUMENT(role_memory), ARGUMENT(role_input), ARGUMENT(role_output));
     case call_rounds:
         return implementation->rounds(ARGUMENT(role_sheet), ARGUMENT(role_memory), ARGUMENT(role_input), ARGUMENT(role_output));
     case call_scheduled:

@@ -12,6 +12,7 @@
 #define nuthatchbed_start evaluator_start
 #define nuthatchbed_rounds evaluator_rounds
 #define nuthatchbed_scheduled evaluator_scheduled
+#define probe_preview evaluator_preview
 #define probe_schedule evaluator_schedule
 #endif
 
@@ -19,7 +20,7 @@
 #include "common/probe.h"
 #include "nuthatchbed.h"
 
-static const struct implementation library = {nuthatchbed_check, nuthatchbed_start, nuthatchbed_rounds, nuthatchbed_scheduled,
-                                              probe_schedule};
+static const struct implementation library = {nuthatchbed_check,  nuthatchbed_start,     probe_preview,
+                                              nuthatchbed_rounds, nuthatchbed_scheduled, probe_schedule};
 
 #endif

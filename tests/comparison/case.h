@@ -24,6 +24,7 @@ struct subject {
 struct workspace {
     struct subject subject;
     struct buffers given;
+    struct buffers previewed;
     struct buffers by_rounds;
     struct buffers by_schedule;
 };
@@ -34,7 +35,7 @@ typedef void step(struct harness *harness, struct workspace *workspace);
 /* refused_sheets.c: a refused sheet is refused by all calls, whatever the other buffers are. */
 step compare_refused_sheet;
 
-/* instants.c: the start, and instants both ways from memory to memory, with demand 3 between them. */
+/* instants.c: the start, and instants both ways from memory to memory, each previewed, with K3 and demand 3 between them. */
 step compare_instants;
 
 /* maker.c: a schedule is asked for, also of a refused sheet, and must be there by what is known of the reads; an instant goes along it. */
@@ -45,7 +46,7 @@ step compare_maker;
 /* Leaves the starting memory in "given". */
 void compare_start(struct harness *harness, struct workspace *workspace);
 
-/* Both instants from the memory, input row and list in "given". Answers whether the rounds are accepted. */
+/* The preview and both instants from the memory, input row and list in "given". Answers whether the rounds are accepted. */
 bool compare_instant(struct harness *harness, struct workspace *workspace, bool list_passes);
 
 /* ---- ends.c ---- */

@@ -1,5 +1,5 @@
-/* The step of a case that goes from instant to instant: the start, then rounds and schedule from the same memory, row and list, which
- * must agree as demand 3 says. Rests on the harness and on the generator's rows.
+/* The step of a case that goes from instant to instant: the start, then preview, rounds and schedule from the same memory, row and list,
+ * which must agree as K3 and demand 3 say. Rests on the harness and on the generator's rows.
  */
 #include "comparison/case.h"
 
@@ -22,12 +22,28 @@ static uint32_t compare_rounds(struct harness *harness, struct workspace *worksp
     return rounds;
 }
 
+/* The preview and then the rounds, with output rows that hold different bytes: the same answer and, where it is accepted, the same row. */
+static uint32_t compare_rounds_previewed(struct harness *harness, struct workspace *workspace)
+{
+    struct buffers *const given = &workspace->given;
+    struct buffers *const previewed = &workspace->previewed;
+    const uint32_t shown = compare_call(harness, call_preview, given, previewed);
+    fill_with_rubbish(&harness->random, &given->of[role_output], given->of[role_output].length);
+    const uint32_t rounds = compare_rounds(harness, workspace);
+    if (shown != rounds)
+        report_mismatch(harness, call_rounds, given, "K3: the preview answers otherwise");
+    if (rounds < first_refusal && !same_bytes(&previewed->of[role_output], &workspace->by_rounds.of[role_output]))
+        report_mismatch(harness, call_rounds, given, "K3: the preview shows another row");
+    harness->statistics.count[counter_instants_previewed] += rounds < first_refusal;
+    return rounds;
+}
+
 bool compare_instant(struct harness *harness, struct workspace *workspace, bool list_passes)
 {
     struct buffers *const given = &workspace->given;
     const struct buffers *const by_rounds = &workspace->by_rounds;
     struct buffers *const by_schedule = &workspace->by_schedule;
-    const bool accepted = compare_rounds(harness, workspace) < first_refusal;
+    const bool accepted = compare_rounds_previewed(harness, workspace) < first_refusal;
     fill_with_rubbish(&harness->random, &given->of[role_output], given->of[role_output].length);
     const uint32_t scheduled = compare_call(harness, call_scheduled, given, by_schedule);
     if (list_passes && scheduled != 0)

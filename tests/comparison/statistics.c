@@ -7,6 +7,7 @@
 
 static const char *const counter_texts[counters] = {
     [counter_sheets_by_construction] = "sheets correct by construction",
+    [counter_instants_previewed] = "instants accepted in rounds as their preview shows",
     [counter_instants_both_ways] = "instants the same both ways",
     [counter_instants_without_schedule] = "instants accepted in rounds that have no schedule",
     [counter_most_rounds] = "most rounds",

@@ -8,6 +8,7 @@
 
 enum counter {
     counter_sheets_by_construction,
+    counter_instants_previewed,
     counter_instants_both_ways,
     counter_instants_without_schedule,
     counter_most_rounds,

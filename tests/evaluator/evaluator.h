@@ -17,6 +17,10 @@ uint32_t evaluator_check(const uint8_t *sheet, size_t sheet_length);
 /* Refusals 1 to 12. Success answers 0 and fills the memory. */
 uint32_t evaluator_start(const uint8_t *sheet, size_t sheet_length, uint8_t *memory, size_t memory_length);
 
+/* Refusals 1 to 16 and 20. Success answers the rounds and fills the output row; the memory is not written. */
+uint32_t evaluator_preview(const uint8_t *sheet, size_t sheet_length, const uint8_t *memory, size_t memory_length,
+                           const uint8_t *input, size_t input_length, uint8_t *output, size_t output_length);
+
 /* Refusals 1 to 16 and 20. Success answers the rounds. */
 uint32_t evaluator_rounds(const uint8_t *sheet, size_t sheet_length, uint8_t *memory, size_t memory_length,
                           const uint8_t *input, size_t input_length, uint8_t *output, size_t output_length);

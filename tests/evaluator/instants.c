@@ -1,7 +1,9 @@
-/* The evaluator's four calls: the checks of memory, rows and schedule, the rounds, the one pass along a schedule, and what they write.
- * Rests on reading.c for the sheet, on values.c for the wires and on storing.c for the next memory.
+/* The evaluator's calls but the maker: the checks of memory, rows and schedule, the rounds, the one pass along a schedule, and what they
+ * write. Rests on reading.c for the sheet, on values.c for the wires and on storing.c for the next memory.
  */
 #include "evaluator/internal.h"
+
+#include <string.h>
 
 /* ---- Memory, rows and schedule ---- */
 
@@ -113,7 +115,7 @@ static uint32_t finish_instant(struct instant *instant, const struct value *fini
     return 0;
 }
 
-/* ---- The four calls ---- */
+/* ---- The calls ---- */
 
 uint32_t evaluator_check(const uint8_t *sheet, size_t sheet_length)
 {
@@ -156,6 +158,15 @@ uint32_t evaluator_rounds(const uint8_t *sheet, size_t sheet_length, uint8_t *me
     }
     refused = finish_instant(&instant, values[rounds % 2], output);
     return refused != 0 ? refused : rounds;
+}
+
+/* The instant on a copy of the memory. One longer than any sheet has cells for is refused by its length alone. */
+uint32_t evaluator_preview(const uint8_t *sheet, size_t sheet_length, const uint8_t *memory, size_t memory_length,
+                           const uint8_t *input, size_t input_length, uint8_t *output, size_t output_length)
+{
+    uint8_t copy[bytes_of_cell * most_cells];
+    memcpy(copy, memory, memory_length < sizeof copy ? memory_length : sizeof copy);
+    return evaluator_rounds(sheet, sheet_length, copy, memory_length, input, input_length, output, output_length);
 }
 
 uint32_t evaluator_scheduled(const uint8_t *sheet, size_t sheet_length, uint8_t *memory, size_t memory_length,

@@ -4,7 +4,7 @@ use mathlib.Core.Path.{_≡_, sym, _∙_}
 use mathlib.Core.List.{List}
 use Rattle.sheet.specs.Outcomes.{result, followedBy}
 use Rattle.sheet.specs.declared.Refusal.{Refusal}
-use Rattle.kernel.specs.Calls.{InstantCall, givenOf, inRounds, roundsCall, scheduledCall}
+use Rattle.kernel.specs.Calls.{InstantCall, givenOf, inRounds, roundsCall, scheduledCall, Leaves}
 use Rattle.kernel.specs.Laws.Demands.{givesOf, givenFinished, givenRounds, demand2, demand3}
 use Rattle.kernel.specs.declared.InRounds.{InRounds}
 use Rattle.kernel.specs.declared.InRounds.the-variants.{Refused as RefusedInRounds, Accepted as AcceptedInRounds}
@@ -12,7 +12,6 @@ use Rattle.kernel.specs.declared.Scheduled.{Scheduled}
 use Rattle.kernel.specs.declared.Scheduled.the-variants.{Refused as RefusedScheduled, Accepted as AcceptedScheduled}
 use Rattle.agreement.specs.declared.Together.{Together}
 use Rattle.agreement.specs.declared.Together.the-variants.{NotAccepted, Accepted}
-use Rattle.instant.specs.Leaves.{Leaves}
 use Rattle.agreement.specs.Agreement.{bothAnswers, Beside, BothGiven, Agreed}
 
 -- the answers, case by case

@@ -1,2 +1,4 @@
--- A sheet that the check passes, and the answer of the tests.
+-- What a passed check and passed buffers mean for `given_of`.
 pub mod Passing
+pub mod Standing
+pub mod Granting

@@ -1,4 +1,4 @@
--- What a sheet that the check passes has, and how the tests of the buffers make the answer.
+-- What a sheet that the check passes has, and how the tests of the buffers make the outcome of the checks.
 use Prim.Native.Nat.{ℕ, zero, suc, _+_, _*_, _-_, _≤_, _<_}
 use mathlib.Core.Path.{_≡_, refl, sym, ap, _∙_}
 use mathlib.Core.Bool.{Bool, true, false, cond}
@@ -16,19 +16,17 @@ use Rattle.sheet.specs.Typing.{Pairwise, done, _then_}
 use Rattle.sheet.specs.Rows.{inputsOf}
 use Rattle.sheet.specs.Laws.Checked.{check-refused, CheckPassed as Checked, check-passed}
 use Rattle.sheet.specs.Laws.Headers.{section-good, section-length}
+use Rattle.sheet.specs.Laws.Lists.{never}
 use Rattle.sheet.specs.declared.Datum.{Datum}
 use Rattle.sheet.specs.declared.Cell.{Cell}
 use Rattle.sheet.specs.declared.Refusal.{Refusal}
 use Rattle.sheet.specs.declared.Refusal.the-variants.{TypeByte, OutputLength}
 use Rattle.sheet.specs.declared.Checked.the-variants.{Refused as CheckRefused, Passed as CheckPassed}
 use Rattle.sheet_expressions.specs.Map.{CellNoted, formIn}
-use Rattle.kernel.specs.Calls.{givenOf}
+use Rattle.kernel.specs.Calls.{Given, givenOf}
 use Rattle.buffers.specs.Tests.{testedOf, andTested, buffersTested, Formed}
 use Rattle.buffers.specs.declared.Tested.{Tested}
 use Rattle.buffers.specs.declared.Tested.the-variants.{Refused, Fine}
-use Rattle.given.specs.Answers.{givenAnswer}
-use Rattle.given.specs.declared.Given.{Given as Answer}
-use Rattle.given.specs.declared.Given.the-variants.{Refused as GivenRefused, Passed}
 
 -- the forms that are noted are those of the cells
 pub noted-forms : {s entries : List ℕ} {fs : List CellForm} {count : ℕ} → length fs ≡ count
@@ -55,13 +53,6 @@ pub own-tests : {s : List ℕ} {i w o k : ℕ} (p : Passes s i w o k) (memory in
     ≡ buffersTested (sheetForms sheet) (sheet .inputTypes) (length (sheet .outputs)) memory input output
 own-tests {i = i} p memory input output = let e : 1 + i - 1 ≡ i = omega arith in rw (e, p .types, p .checked .outputs-are)
 
--- and so are the counts
-abbrev countsOf : Sheet → Answer
-countsOf sheet = Passed (length (sheet .inputTypes)) (length (sheet .wireTypes)) (length (sheet .outputs)) (length (sheetForms sheet))
-
-pub own-counts : {s : List ℕ} {i w o k : ℕ} (p : Checked s i w o k) → Passed i w o k ≡ countsOf (p .sheet)
-own-counts p = rw (p .inputs-are, p .wires-are, p .outputs-are, p .cells-are)
-
 pub passes : (s : List ℕ) (i w o k : ℕ) → checkOf s ≡ CheckPassed i w o k → Passes s i w o k
 passes s i w o k e =
     let p = check-passed s i w o k e in
@@ -78,14 +69,13 @@ passes s i w o k e =
       types = sym (ap (λ x. x .inputTypes) (v .is) ∙ ap (map typeOfByte) bytes);
     }
 
--- the answer where 1 to 11 are passed
-abbrev answered : Answer → Tested → Answer
-answered counts (Refused why place) = GivenRefused why place
-answered counts Fine = counts
+-- what the tests of the buffers say of the outcome of the checks, once 1 to 11 are passed
+pub data Tells (sheet : Sheet) (o : Outcome Given) : Tested → Type 0 where
+  refuses : {why : Refusal} {place : ℕ} → o ≡ refusal why place → Tells sheet o (Refused why place)
+  grants : (given : Given) → o ≡ result given → given .sheet ≡ sheet → Tells sheet o Fine
 
 module _ (s memory input output : List ℕ) where
-  pub sheet-refused : {why : Refusal} {place : ℕ} → checkOf s ≡ CheckRefused why place
-      → GivenRefused why place ≡ givenAnswer (givenOf s memory input output)
+  pub sheet-refused : {why : Refusal} {place : ℕ} → checkOf s ≡ CheckRefused why place → givenOf s memory input output ≡ refusal why place
   unfolding givenOf
   sheet-refused e = rw (check-refused s e)
 
@@ -96,17 +86,32 @@ module _ (s memory input output : List ℕ) where
     abbrev tests : Outcome (List Cell) → Outcome (List Datum) → Bool → Tested
     tests m i t = andTested (testedOf m) (andTested (testedOf i) (cond t Fine (Refused OutputLength 0)))
 
-    pub buffers-answer : {x : Tested} → x ≡ buffers → answered (countsOf sheet) x ≡ givenAnswer (givenOf s memory input output)
+    pub buffers-tell : Tells sheet (givenOf s memory input output) buffers
     unfolding givenOf
-    buffers-answer h =
-        rw (h, e) (go (memoryOf (sheetForms sheet) memory) (inputsOf (sheet .inputTypes) input)
+    buffers-tell =
+        rw e (go (memoryOf (sheetForms sheet) memory) (inputsOf (sheet .inputTypes) input)
         (eqb (length output) (4 * length (sheet .outputs))))
       where
         go : (m : Outcome (List Cell)) (i : Outcome (List Datum)) (t : Bool)
-            → answered (countsOf sheet) (tests m i t)
-            ≡ givenAnswer (followedBy m (λ cells. followedBy i (λ inputs.
-            cond t (result (record { sheet = sheet; inputs = inputs; memory = cells })) (refusal OutputLength 0))))
-        go (refusal w p) i t = refl
-        go (result c) (refusal w p) t = refl
-        go (result c) (result d) true = refl
-        go (result c) (result d) false = refl
+            → Tells sheet (followedBy m (λ cells. followedBy i (λ inputs.
+            cond t (result (record { sheet = sheet; inputs = inputs; memory = cells })) (refusal OutputLength 0)))) (tests m i t)
+        go (refusal w p) i t = refuses refl
+        go (result c) (refusal w p) t = refuses refl
+        go (result c) (result d) true = grants _ refl refl
+        go (result c) (result d) false = refuses refl
+
+    pub buffers-refused : {why : Refusal} {place : ℕ} → Refused why place ≡ buffers → givenOf s memory input output ≡ refusal why place
+    buffers-refused {why} {place} h = go buffers-tell h
+      where
+        go : {x : Tested} → Tells sheet (givenOf s memory input output) x → Refused why place ≡ x
+            → givenOf s memory input output ≡ refusal why place
+        go (refuses f) h = f ∙ cc
+        go (grants given f is) h = never (cc)
+
+    pub buffers-passed : Fine ≡ buffers → (given : Given) × (givenOf s memory input output ≡ result given) × (given .sheet ≡ sheet)
+    buffers-passed h = go buffers-tell h
+      where
+        go : {x : Tested} → Tells sheet (givenOf s memory input output) x → Fine ≡ x
+            → (given : Given) × (givenOf s memory input output ≡ result given) × (given .sheet ≡ sheet)
+        go (refuses f) h = never (cc)
+        go (grants given f is) h = (given, f, is)

@@ -1,32 +1,30 @@
-// What an instant is given: the checks 1 to 16 of its buffers. Rests on `sheet_check` for 1 to 11 and the map, which holds the forms
-// of the cells, and on `buffers` for 12 to 16.
+// What an instant is given: the checks 1 to 16 of its buffers, the map of its sheet and the words of its inputs. Rests on `sheet_check`
+// for 1 to 11 and the map, which holds the forms of the cells, on `buffers` for 12 to 16, and on `leaves` for the inputs' words.
 use buffers::Tested;
 use sheet::Checked;
 use sheet::Refusal;
 ghost use mathlib.Core.Path.{_≡_};
-ghost use Prim.Native.Nat.{ℕ, _≤_};
+ghost use Prim.Native.Nat.{_≤_};
 ghost use lib.ListN.{length};
-ghost use Rattle.sheet.specs.Sheets.{Sheet};
-ghost use Rattle.sheet.specs.Laws.Headers.{SheetRead};
-ghost use Rattle.sheet_expressions.specs.Map.{Sited, wiresOf};
-ghost use Rattle.kernel.specs.Calls.{givenOf};
-ghost use Rattle.given.specs.Answers.{givenAnswer};
+ghost use Rattle.given.specs.Grants.{Grants, partsOf};
 
-// What the checks of an instant's buffers answer: the first refusal 1 to 16 with its place, or the four counts of the sheet.
+// What the checks of an instant's buffers answer: the first refusal 1 to 16 with its place, or where the types of the wires and the
+// outputs stand in the sheet.
 pub enum Given {
     Refused {
         why: Refusal,
         place: usize,
     },
     Passed {
-        inputs: usize,
-        wires: usize,
-        outputs: usize,
-        cells: usize,
+        types_from: usize,
+        types_to: usize,
+        outputs_from: usize,
+        outputs_to: usize,
     },
 }
 
-// The checks 1 to 16 of a sheet, a memory, an input row and an output row. Where they pass, the map of the sheet's wires is drawn.
+// The checks 1 to 16 of a sheet, a memory, an input row and an output row. Where they pass, the map of the sheet's wires is drawn, and
+// the inputs' words are put; after a refusal, and beyond the sheet's wires and inputs, what map and words hold is free.
 pub fn given_of(
     sheet: &[u8],
     memory: &[u8],
@@ -35,11 +33,11 @@ pub fn given_of(
     places: &mut [u16; 64],
     firsts: &mut [u8; 64],
     reads: &mut [u64; 64],
+    words: &mut [u32; 80],
 ) -> Given
-    requires { ⌜ (64 ≤ length (now places)) × (64 ≤ length (now firsts)) × (64 ≤ length (now reads)) ⌝ }
-    ensures { λ r. ⌜ r ≡ givenAnswer (givenOf (now (sheet .entry)) (now (memory .entry)) (now (input .entry)) (now (output .entry))) ⌝ }
-    ensures { λ _. ⌜ ((s : Sheet) (n k : ℕ) (v : SheetRead (now (sheet .entry)) s n k)
-        → Sited (wiresOf v) (now (places .exit)) (now (firsts .exit)) (now (reads .exit))) ⌝ }
+    requires { ⌜ (64 ≤ length (now places)) × (64 ≤ length (now firsts)) × (64 ≤ length (now reads)) × (length (now words) ≡ 80) ⌝ }
+    ensures { λ r. ⌜ Grants (now (sheet .entry)) (now (memory .entry)) (now (input .entry)) (now (output .entry))
+        (now (places .exit)) (now (firsts .exit)) (now (reads .exit)) (now (words .exit)) r ⌝ }
 {
     let mut forms = [0u16; 64];
     match sheet_check::check_map(sheet, places, firsts, reads, &mut forms) {
@@ -53,13 +51,27 @@ pub fn given_of(
             let types = &sheet[1..1 + inputs];
             match buffers::check_buffers(&forms, cells, types, outputs, memory, input, output) {
                 Tested::Refused { why, place } => Given::Refused { why, place },
-                Tested::Fine => Given::Passed {
-                    inputs,
-                    wires,
-                    outputs,
-                    cells,
-                },
+                Tested::Fine => {
+                    leaves::inputs::put_inputs(input, words);
+                    parts(inputs, wires, outputs)
+                }
             }
         }
+    }
+}
+
+// Where the types of the wires and the outputs stand in a sheet with these counts: behind each count byte.
+fn parts(inputs: usize, wires: usize, outputs: usize) -> Given
+    requires { ⌜ (inputs ≤ 16) × (wires ≤ 64) × (outputs ≤ 16) ⌝ }
+    ensures { λ r. ⌜ r ≡ partsOf inputs wires outputs ⌝ }
+{
+    let types_from = 2 + inputs;
+    let types_to = types_from + wires;
+    let outputs_from = types_to + 1;
+    Given::Passed {
+        types_from,
+        types_to,
+        outputs_from,
+        outputs_to: outputs_from + outputs,
     }
 }

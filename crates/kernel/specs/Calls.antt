@@ -1,5 +1,6 @@
 -- The two instants as calls: from all buffers to the answer and what the buffers hold, refusals included.
-use Prim.Native.Nat.{ℕ, _*_}
+use Prim.Native.Nat.{ℕ, _*_, _<_}
+use mathlib.Core.Path.{_≡_}
 use mathlib.Core.Bool.{cond}
 use mathlib.Core.List.{List}
 use lib.Dec.{ltb}
@@ -72,6 +73,17 @@ pub record InstantCall (Answer : Type 0) : Type 0 where
   pub memory : List ℕ
   pub output : List ℕ
 
+-- an answer and an output row are those of the call
+pub record Shows {Answer : Type 0} (call : InstantCall Answer) (answer : Answer) (output : List ℕ) : Type 0 where
+  pub answers : answer ≡ call .answer
+  pub writes : output ≡ call .output
+
+-- an answer, a memory and an output row are those of the call
+pub record Leaves {Answer : Type 0} (call : InstantCall Answer) (answer : Answer) (memory output : List ℕ) : Type 0 where
+  pub answers : answer ≡ call .answer
+  pub stores : memory ≡ call .memory
+  pub writes : output ≡ call .output
+
 abbrev leftBy : {Answer : Type 0} → (Outcome Accepted → Answer) → Outcome Accepted → (memory output : List ℕ) → InstantCall Answer
 leftBy answer o memory output =
     record { answer = answer o; memory = holdsAfter o (λ a. a .memory) memory; output = holdsAfter o (λ a. a .output) output }
@@ -96,6 +108,11 @@ scheduledCall s memory input output list =
 abbrev pub packedRounds : InRounds → ℕ
 packedRounds (RefusedInRounds why place) = packedRefusal why place
 packedRounds (AcceptedInRounds rounds) = rounds
+
+-- place and rounds have room in such a number
+abbrev pub Packable : InRounds → Type 0
+Packable (RefusedInRounds why place) = place < 65536
+Packable (AcceptedInRounds rounds) = rounds < 65536
 
 abbrev pub packedScheduled : Scheduled → ℕ
 packedScheduled (RefusedScheduled why place) = packedRefusal why place

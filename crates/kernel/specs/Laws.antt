@@ -14,6 +14,7 @@ pub mod Solutions
 pub mod Schedules
 pub mod Given
 pub mod Demands
+pub mod Previews
 pub mod Typing
 pub mod Storing
 pub mod Memory

@@ -29,7 +29,7 @@ use Rattle.rounds.specs.Running.{Held, held}
 use Rattle.rounds.proofs.Wires.{wires-counted, running-stands}
 use Rattle.storing.specs.Advances.{Ready, Advances}
 use Rattle.storing.proofs.Standing.{cells-past, memory-append, stored-length}
-use Rattle.next_memory.specs.Settled.{Settled, storedOf}
+use Rattle.rounds.specs.Settled.{Settled, storedOf}
 
 no-cells : (cells : List Cell) → length cells ≡ 0 → cells ≡ []
 no-cells [] e = refl

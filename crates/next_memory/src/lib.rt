@@ -6,7 +6,7 @@ ghost use mathlib.Core.Path.{_≡_};
 ghost use mathlib.Core.Bool.{false};
 ghost use Prim.Native.Nat.{_+_, _<_, _≤_};
 ghost use lib.ListN.{getD};
-ghost use Rattle.next_memory.specs.Settled.{Settled, storedOf};
+ghost use Rattle.rounds.specs.Settled.{Settled, storedOf};
 
 // Stores the cells of all wires under the finished values, which the words hold. A wire without cells is passed over.
 pub fn store(

@@ -1,6 +1,5 @@
 // The four calls of the C library, each a packed number: a refusal's number times 65,536 plus its place, else what the call gives.
-// Rests on `sheet_check`, `sheet_start` and `instant` for the calls themselves.
-use kernel::InRounds;
+// Rests on `sheet_check`, `sheet_start`, `in_rounds` and `along_schedule` for the calls themselves.
 use kernel::Scheduled;
 use sheet::Checked;
 use sheet::Started;
@@ -52,10 +51,8 @@ pub extern "C" fn nuthatchbed_rounds(
     ensures { λ _. ⌜ now (output .exit)
         ≡ roundsCall (now (sheet .entry)) (now (memory .entry)) (now (input .entry)) (now (output .entry)) .output ⌝ }
 {
-    match instant::in_rounds(sheet, memory, input, output) {
-        InRounds::Refused { why, place } => refusals::packed(why, place),
-        InRounds::Accepted { rounds } => rounds as u32,
-    }
+    let answer = in_rounds::instant(sheet, memory, input, output);
+    in_rounds::packed(answer)
 }
 
 // The instant along a schedule: 0, or a refusal; memory and row as in rounds.
@@ -74,7 +71,7 @@ pub extern "C" fn nuthatchbed_scheduled(
     ensures { λ _. ⌜ now (output .exit) ≡ scheduledCall (now (sheet .entry)) (now (memory .entry)) (now (input .entry))
         (now (output .entry)) (now (schedule .entry)) .output ⌝ }
 {
-    match instant::along_schedule(sheet, memory, input, output, schedule) {
+    match along_schedule::instant(sheet, memory, input, output, schedule) {
         Scheduled::Refused { why, place } => refusals::packed(why, place),
         Scheduled::Accepted => 0,
     }

@@ -8,10 +8,9 @@ use lib.ListN.{length, take, drop, length-drop}
 use lib.Seq.{drop-drop}
 use Rattle.sheet.specs.Outcomes.{numberOf}
 use Rattle.sheet.specs.declared.Refusal.{Refusal}
-use Rattle.kernel.specs.Calls.{InstantCall, roundsCall}
+use Rattle.kernel.specs.Calls.{InstantCall, roundsCall, Leaves}
 use Rattle.kernel.specs.declared.InRounds.{InRounds}
 use Rattle.kernel.specs.declared.InRounds.the-variants.{Refused, Accepted}
-use Rattle.instant.specs.Leaves.{Leaves}
 use Rattle.lines.specs.Buffers.{Holds}
 use Rattle.text.specs.Pieces.{numbersOf}
 use Rattle.lines.specs.Lines.{refusedLine, leftLine, rowLine}

@@ -1,5 +1,5 @@
 // The player's text, line after line: what document 01 has the player print for an input, given into a lent buffer.
-// Rests on `sheet_check`, `sheet_start` and `instant` for the calls, and on `lines` for the lines.
+// Rests on `sheet_check`, `sheet_start` and `in_rounds` for the calls, and on `lines` for the lines.
 use kernel::InRounds;
 use sheet::Checked;
 use sheet::Refusal;
@@ -194,7 +194,7 @@ fn row_line(bytes: &[u8], progress: Progress, memory: &mut [u8], text: &mut [u8]
     let cells_size = progress.memory;
     let row_size = progress.output;
     let mut output = [0u8; 64];
-    match instant::in_rounds(
+    match in_rounds::instant(
         &bytes[2..end],
         &mut memory[..cells_size],
         &bytes[at..next],

@@ -1,4 +1,4 @@
 pub mod Running
+pub mod Settled
 pub mod Due
 pub mod Outputs
-pub mod Laws

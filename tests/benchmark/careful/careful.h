@@ -10,6 +10,9 @@ uint32_t careful_check(const uint8_t *sheet, size_t sheet_length);
 
 uint32_t careful_start(const uint8_t *sheet, size_t sheet_length, uint8_t *memory, size_t memory_length);
 
+uint32_t careful_preview(const uint8_t *sheet, size_t sheet_length, const uint8_t *memory, size_t memory_length,
+                         const uint8_t *input, size_t input_length, uint8_t *output, size_t output_length);
+
 uint32_t careful_rounds(const uint8_t *sheet, size_t sheet_length, uint8_t *memory, size_t memory_length,
                         const uint8_t *input, size_t input_length, uint8_t *output, size_t output_length);
 
@@ -19,6 +22,7 @@ uint32_t careful_scheduled(const uint8_t *sheet, size_t sheet_length, uint8_t *m
 
 uint32_t careful_schedule(const uint8_t *sheet, size_t sheet_length, uint8_t *list, size_t list_length);
 
-static const struct implementation careful = {careful_check, careful_start, careful_rounds, careful_scheduled, careful_schedule};
+static const struct implementation careful = {careful_check,  careful_start,     careful_preview,
+                                              careful_rounds, careful_scheduled, careful_schedule};
 
 #endif

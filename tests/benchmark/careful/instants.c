@@ -1,5 +1,5 @@
-/* The four calls of careful C: the checks of memory, rows and schedule, the rounds and the pass. A round works out only those unknown wires
- * that read a wire which the round before made known. Rests on reading.c, values.c and storing.c.
+/* The calls of careful C but the maker: the checks of memory, rows and schedule, the rounds and the pass. A round works out only those
+ * unknown wires that read a wire which the round before made known. Rests on reading.c, values.c and storing.c.
  */
 #include "benchmark/careful/careful.h"
 #include "benchmark/careful/internal.h"
@@ -55,8 +55,8 @@ static uint32_t check_schedule(const struct program *program, const uint8_t *sch
 /* ---- The instants ---- */
 
 /* Checks 1 to 16, and what the instant has at hand. */
-static uint32_t prepare(struct program *program, struct instant *instant, const uint8_t *sheet, size_t sheet_length, uint8_t *memory,
-                        size_t memory_length, const uint8_t *input, size_t input_length, size_t output_length)
+static uint32_t prepare(struct program *program, struct instant *instant, const uint8_t *sheet, size_t sheet_length,
+                        const uint8_t *memory, size_t memory_length, const uint8_t *input, size_t input_length, size_t output_length)
 {
     uint32_t refused = read_program(program, sheet, sheet_length);
     if (refused == 0)
@@ -73,11 +73,13 @@ static uint32_t prepare(struct program *program, struct instant *instant, const 
     return refused;
 }
 
-/* Writes next memory and output row; every wire is known. */
-static void finish(const struct instant *instant, uint8_t *output)
+/* Writes the output row and, where there is one, the next memory; every wire is known. */
+static void finish(struct instant *instant, uint8_t *next_memory, uint8_t *output)
 {
     const struct program *const program = instant->program;
-    store_wires(instant);
+    instant->next_memory = next_memory;
+    if (next_memory != NULL)
+        store_wires(instant);
     for (unsigned index = 0; index < program->outputs; index++)
         write_number(output + bytes_of_number * index, instant->wires[program->output_wires[index]]);
 }
@@ -101,27 +103,9 @@ static uint64_t work_out_round(struct instant *instant, uint64_t waiting, uint64
     return grown;
 }
 
-uint32_t careful_check(const uint8_t *sheet, size_t sheet_length)
-{
-    struct program program;
-    const uint32_t refused = read_program(&program, sheet, sheet_length);
-    return refused != 0 ? refused : program.cells;
-}
-
-uint32_t careful_start(const uint8_t *sheet, size_t sheet_length, uint8_t *memory, size_t memory_length)
-{
-    struct program program;
-    const uint32_t refused = read_program(&program, sheet, sheet_length);
-    if (refused != 0)
-        return refused;
-    if (memory_length != (size_t)bytes_of_cell * program.cells)
-        return refusal(12, 0);
-    start_cells(&program, memory, 0, program.cells);
-    return 0;
-}
-
-uint32_t careful_rounds(const uint8_t *sheet, size_t sheet_length, uint8_t *memory, size_t memory_length,
-                        const uint8_t *input, size_t input_length, uint8_t *output, size_t output_length)
+/* The instant in rounds: until one changes nothing. Where there is no next memory, nothing is stored. */
+static uint32_t in_rounds(const uint8_t *sheet, size_t sheet_length, const uint8_t *memory, size_t memory_length, const uint8_t *input,
+                          size_t input_length, uint8_t *output, size_t output_length, uint8_t *next_memory)
 {
     struct program program;
     struct instant instant;
@@ -141,8 +125,39 @@ uint32_t careful_rounds(const uint8_t *sheet, size_t sheet_length, uint8_t *memo
     } while (made_known != 0);
     if (waiting != 0)
         return refusal(20, (unsigned)__builtin_ctzll(waiting));
-    finish(&instant, output);
+    finish(&instant, next_memory, output);
     return rounds;
+}
+
+uint32_t careful_check(const uint8_t *sheet, size_t sheet_length)
+{
+    struct program program;
+    const uint32_t refused = read_program(&program, sheet, sheet_length);
+    return refused != 0 ? refused : program.cells;
+}
+
+uint32_t careful_start(const uint8_t *sheet, size_t sheet_length, uint8_t *memory, size_t memory_length)
+{
+    struct program program;
+    const uint32_t refused = read_program(&program, sheet, sheet_length);
+    if (refused != 0)
+        return refused;
+    if (memory_length != (size_t)bytes_of_cell * program.cells)
+        return refusal(12, 0);
+    start_cells(&program, memory, 0, program.cells);
+    return 0;
+}
+
+uint32_t careful_preview(const uint8_t *sheet, size_t sheet_length, const uint8_t *memory, size_t memory_length,
+                         const uint8_t *input, size_t input_length, uint8_t *output, size_t output_length)
+{
+    return in_rounds(sheet, sheet_length, memory, memory_length, input, input_length, output, output_length, NULL);
+}
+
+uint32_t careful_rounds(const uint8_t *sheet, size_t sheet_length, uint8_t *memory, size_t memory_length,
+                        const uint8_t *input, size_t input_length, uint8_t *output, size_t output_length)
+{
+    return in_rounds(sheet, sheet_length, memory, memory_length, input, input_length, output, output_length, memory);
 }
 
 uint32_t careful_scheduled(const uint8_t *sheet, size_t sheet_length, uint8_t *memory, size_t memory_length,
@@ -158,6 +173,6 @@ uint32_t careful_scheduled(const uint8_t *sheet, size_t sheet_length, uint8_t *m
         return refused;
     for (unsigned position = 0; position < program.wires; position++)
         instant.wires[schedule[position]] = number_of(&instant, program.wire_node[schedule[position]], false);
-    finish(&instant, output);
+    finish(&instant, memory, output);
     return 0;
 }

@@ -80,7 +80,8 @@ struct program {
 /* What an instant has at hand. A wire's number counts only where the wire is known. */
 struct instant {
     const struct program *program;
-    uint8_t *memory;
+    const uint8_t *memory;
+    uint8_t *next_memory; /* the same bytes, where they are to be stored */
     uint64_t known;
     uint32_t wires[most_wires];
     uint32_t inputs[most_inputs];

@@ -29,7 +29,7 @@ static void store_where_cells(const struct instant *instant, const struct node *
 static void store_arm_not_chosen(const struct instant *instant, const struct node *node, bool fresh)
 {
     if (fresh)
-        start_cells(instant->program, instant->memory, node->first_cell, node->end_cell);
+        start_cells(instant->program, instant->next_memory, node->first_cell, node->end_cell);
 }
 
 static void store_present(const struct instant *instant, const struct node *node, bool fresh)
@@ -54,7 +54,7 @@ static void store_own_cell(const struct instant *instant, const struct node *nod
     store_where_cells(instant, node + 1, fresh);
     if (node->kind == kind_fby)
         store_where_cells(instant, stored, fresh);
-    write_cell(instant->memory + bytes_of_cell * node->first_cell, 1, number);
+    write_cell(instant->next_memory + bytes_of_cell * node->first_cell, 1, number);
 }
 
 /* Stores the cells of an expression under finished wires. A number is always taken before the cells that it rests on are stored. */

@@ -5,14 +5,14 @@ use Rattle.agreement.proofs.both.Statement.{statement}
 use Rattle.agreement.proofs.both.Tie as tie
 
 -- the call in rounds, from the other
-abbrev in-turn : tie.After-along-schedule → tie.After-in-rounds
+abbrev in-turn : tie.After-instant2 → tie.After-instant
 in-turn c = c .before .before .before .before .before .before .before
 
-in-rounds-requires : tie.Need-in-rounds-requires
-in-rounds-requires c κs = search needs
+instant-requires : tie.Need-instant-requires
+instant-requires c κs = search needs
 
-along-schedule-requires : tie.Need-along-schedule-requires
-along-schedule-requires c κs = search needs
+instant-requires-2 : tie.Need-instant-requires-2
+instant-requires-2 c κs = search needs
 
 enum-known-in-turn : tie.Need-enum-known-in-turn
 enum-known-in-turn c = search needs
@@ -35,8 +35,8 @@ same-length-4 c = search needs
 returns : tie.Need-returns
 returns c =
     let second = c .before .before .before .before .before .before in
-    let e = first-refused (second .along-schedule .result) (c .enum-told .given .1) in
-    let b = beside (in-turn second .in-rounds .ensures) (second .along-schedule .ensures) e in
+    let e = first-refused (second .instant2 .result) (c .enum-told .given .1) in
+    let b = beside (in-turn second .instant .ensures) (second .instant2 .ensures) e in
     (b, λ g. agreed b g)
 
 enum-told-2 : tie.Need-enum-told-2
@@ -61,7 +61,7 @@ returns-2 : tie.Need-returns-2
 returns-2 c =
     let second = c .before .before .before .before .before .before .before .before .before in
     let e = second-refused (c .before .before .before .in-turn .given .1) (c .enum-told3 .given .1) in
-    let b = beside (in-turn second .in-rounds .ensures) (second .along-schedule .ensures) e in
+    let b = beside (in-turn second .instant .ensures) (second .instant2 .ensures) e in
     (b, λ g. agreed b g)
 
 same-length-9 : tie.Need-same-length-9
@@ -80,15 +80,15 @@ returns-3 : tie.Need-returns-3
 returns-3 c =
     let second = c .before .before .before .before .before .before .before .before .before in
     let e = none-refused (c .before .before .before .in-turn .given .1) (c .enum-told2 .given .1) in
-    let b = beside (in-turn second .in-rounds .ensures) (second .along-schedule .ensures) e in
+    let b = beside (in-turn second .instant .ensures) (second .instant2 .ensures) e in
     (b, λ g. agreed b g)
 
 pub both-spec : {M : Type 1} → statement M
 both-spec =
     tie.close
     (tie.spec
-    in-rounds-requires
-    along-schedule-requires
+    instant-requires
+    instant-requires-2
     enum-known-in-turn
     enum-told
     same-length

@@ -1,11 +1,16 @@
--- `given_of` meets its contract: the answers follow those of the check and of the buffers' tests, and the map is the check's.
+-- `given_of` meets its contract: the answers follow those of the check and of the buffers' tests, and what passed is granted.
 use mathlib.Core.Path.{_≡_, sym, ap, _∙_}
 use native.Mathlib.Omega.{arith}
 use borrow.Author.Needs.{needs}
 use lib.ListN.{length, length-take}
+use Rattle.sheet.specs.Outcomes.{result}
 use Rattle.sheet.specs.Sheets.{sheetForms}
+use Rattle.kernel.specs.Calls.{Given, givenOf}
+use Rattle.given.specs.Grants.{partsOf}
 use Rattle.buffers.specs.Tests.{buffersTested}
-use Rattle.given.proofs.Passing.{noted-forms, Passes, own-tests, own-counts, passes, sheet-refused, buffers-answer}
+use Rattle.given.proofs.Passing.{noted-forms, Passes, own-tests, passes, sheet-refused, buffers-refused, buffers-passed}
+use Rattle.given.proofs.Standing.{input-length}
+use Rattle.given.proofs.Granting.{grants-refusal, grants-parts}
 use Rattle.given.proofs.given_of.Statement.{statement}
 use Rattle.given.proofs.given_of.Tie as tie
 
@@ -18,14 +23,15 @@ enum-known-why c = search needs
 enum-known-inputs : tie.Need-enum-known-inputs
 enum-known-inputs c = search needs
 
+-- the beginning, from where the check has passed
+abbrev start : tie.After-known-told2 → tie.Start
+start c = c .before .before .before .before .before .before .before .before .before .before .before .before
+
 -- the check passed the sheet
 found : (c : tie.After-known-told2)
     → let n = c .before .inputs .given .0 in
-    let a = c .before .before .before .before .before .before .before .before .before .before .before .before .args in
-    Passes (a .sheet .now) (n .0) (n .1 .0) (n .1 .1 .0) (n .1 .1 .1 .0)
-found c =
-    passes (c .before .before .before .before .before .before .before .before .before .before .before .before .args .sheet .now) _ _ _ _
-    (sym (c .before .before .before .check-map .ensures .0) ∙ c .before .inputs .given .1)
+    Passes (start c .args .sheet .now) (n .0) (n .1 .0) (n .1 .1 .0) (n .1 .1 .1 .0)
+found c = passes (start c .args .sheet .now) _ _ _ _ (sym (c .before .before .before .check-map .ensures .0) ∙ c .before .inputs .given .1)
 
 add-types : tie.Need-add-types
 add-types c = omega (arith, found c .checked .few-inputs)
@@ -43,15 +49,19 @@ check-buffers-requires : tie.Need-check-buffers-requires
 check-buffers-requires c κs =
     let p = found (c .before .before) .checked in (p .few-cells, (simp length-take (omega (arith, p .few-inputs)), p .few-outputs))
 
+-- the check of the sheet, from the tests of the buffers
+abbrev before-tests : tie.After-check-buffers → tie.After-known-told2
+before-tests c = c .before .before .before
+
 -- the tests were of the sheet's own forms, types and outputs
 tested : (c : tie.After-check-buffers)
-    → let a = c .before .before .before .before .before .before .before .before .before .before .before .before .before .before .before .args in
-    let sheet = found (c .before .before .before) .checked .sheet in
+    → let a = start (before-tests c) .args in
+    let sheet = found (before-tests c) .checked .sheet in
     c .check-buffers .result
     ≡ buffersTested (sheetForms sheet) (sheet .inputTypes) (length (sheet .outputs)) (a .memory .now) (a .input .now) (a .output .now)
 tested c =
-    let a = c .before .before .before .before .before .before .before .before .before .before .before .before .before .before .before .args in
-    let passed = found (c .before .before .before) in
+    let a = start (before-tests c) .args in
+    let passed = found (before-tests c) in
     let p = passed .checked in
     let mapped = c .before .before .before .before .before .before .check-map .ensures .1 (p .sheet) (p .end) _ (p .view) in
     let noted = rw (← (ap sheetForms (p .view .is))) at (mapped .cell) in
@@ -64,25 +74,47 @@ enum-known-why-2 c = search needs
 enum-told : tie.Need-enum-told
 enum-told c = search needs
 
+-- so the checks 1 to 16 are passed
+passed : (c : tie.After-enum-told)
+    → let at = before-tests (c .before .before) in
+    let a = start at .args in
+    (given : Given) × (givenOf (a .sheet .now) (a .memory .now) (a .input .now) (a .output .now) ≡ result given)
+    × (given .sheet ≡ found at .checked .sheet)
+passed c =
+    let at = c .before .before in
+    buffers-passed _ _ _ _ (found (before-tests at) .checked .outcome) (sym (c .enum-told .given .1) ∙ tested at)
+
+put-inputs-requires : tie.Need-put-inputs-requires
+put-inputs-requires c κs =
+    (input-length _ _ _ _ _ (passed (c .before) .1), start (before-tests (c .before .before .before)) .pre .3)
+
+parts-requires : tie.Need-parts-requires
+parts-requires c κs =
+    let p = found (before-tests (c .before .before .before .before)) .checked in (p .few-inputs, p .few-wires, p .few-outputs)
+
 returns : tie.Need-returns
-returns c = (
-  sheet-refused _ _ _ _ (sym (c .before .before .before .check-map .ensures .0) ∙ c .before .why .given .1),
-  λ sheet n k v. c .before .before .before .check-map .ensures .1 sheet n k v .sites,
-)
+returns c =
+    grants-refusal _ _ _ _ _ _ _ _ (sheet-refused _ _ _ _ (sym (c .before .before .before .check-map .ensures .0) ∙ c .before .why .given .1))
 
 returns-2 : tie.Need-returns-2
-returns-2 c = (
-  buffers-answer _ _ _ _ (found (c .before .before .before .before .before .before) .checked .outcome)
-      (sym (c .before .why2 .given .1) ∙ tested (c .before .before .before)),
-  λ sheet n k v. c .before .before .before .before .before .before .before .before .before .check-map .ensures .1 sheet n k v .sites,
-)
+returns-2 c =
+    let at = c .before .before .before in
+    grants-refusal _ _ _ _ _ _ _ _
+    (buffers-refused _ _ _ _ (found (before-tests at) .checked .outcome) (sym (c .before .why2 .given .1) ∙ tested at))
 
 returns-3 : tie.Need-returns-3
 returns-3 c =
-    let p = found (c .before .before .before .before .before) .checked in (
-      own-counts p ∙ buffers-answer _ _ _ _ (p .outcome) (sym (c .enum-told .given .1) ∙ tested (c .before .before)),
-      λ sheet n k v. c .before .before .before .before .before .before .before .before .check-map .ensures .1 sheet n k v .sites,
-    )
+    let at = before-tests (c .before .before .before .before .before) in
+    let p = found at .checked in
+    let (given, passes, is) = passed (c .before .before .before) in
+    let drawn = at .before .before .before .check-map .ensures .1 in
+    let memory = at .before .before .before .before .before .before .before .before .before .before in
+    let put = c .before .put-inputs .ensures in
+    let counts : partsOf (length (given .sheet .inputTypes)) (length (given .sheet .wireTypes)) (length (given .sheet .outputs))
+    ≡ c .parts .result = rw (is, p .inputs-are, p .wires-are, p .outputs-are) (sym (c .parts .ensures)) in
+    rw (← counts)
+    (grants-parts _ _ _ _ _ _ _ _ given passes (λ sheet n k v. drawn sheet n k v .sites)
+    (λ i. omega (arith, memory .shared-slice-known2 .given i)) (put .0) (put .1))
 
 pub given-of-spec : {M : Type 1} → statement M
 given-of-spec =
@@ -98,6 +130,8 @@ given-of-spec =
     check-buffers-requires
     enum-known-why-2
     enum-told
+    put-inputs-requires
+    parts-requires
     returns
     returns-2
     returns-3)

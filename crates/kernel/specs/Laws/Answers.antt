@@ -1,6 +1,6 @@
 -- What the answers of the two instants say, on any bytes: demand 2 as the order has it, from the answer of the call; the numbers that
 -- each call refuses with; and that the scheduled instant never answers 20.
-use mathlib.Core.Path.{_≡_, refl, sym, ap, _∙_}
+use mathlib.Core.Path.{_≡_, refl}
 use mathlib.Core.Logic.{_⊎_, inl, inr}
 use Prim.Native.Nat.{ℕ, suc, _≤_, _<_}
 use native.Mathlib.Omega.{arith}
@@ -14,9 +14,9 @@ use Rattle.sheet.specs.declared.Refusal.the-variants.{StaysUnknown}
 use Rattle.kernel.specs.Values.{IsKnown}
 use Rattle.kernel.specs.Order.{valueAt}
 use Rattle.kernel.specs.Systems as System
-use Rattle.kernel.specs.Systems.{Full, Solution, LeastSolution, after, unchanged}
+use Rattle.kernel.specs.Systems.{Full, Solution, LeastSolution, after}
 use Rattle.kernel.specs.Instants.{wireCount, rounds, finished, nextMemory, outputRow}
-use Rattle.kernel.specs.Calls.{Given, givenOf, Accepted, inRounds, scheduled, roundsAnswer, scheduledAnswer, roundsCall, scheduledCall}
+use Rattle.kernel.specs.Calls.{Given, givenOf, Accepted, inRounds, roundsAnswer, scheduledAnswer, roundsCall, scheduledCall, Packable}
 use Rattle.sheet.specs.Laws.Lists.{never}
 use Rattle.kernel.specs.Laws.Rounds.{FirstUnchanged, rounds-first}
 use Rattle.kernel.specs.Laws.Instants.{round-monotone}
@@ -25,6 +25,7 @@ use Rattle.kernel.specs.Laws.Demands.{demand2, least-finished}
 use Rattle.kernel.specs.Laws.Refusals.{given-within, few-wires, scheduled-within}
 use Rattle.kernel.specs.declared.Value.{Value}
 use Rattle.kernel.specs.declared.Value.the-variants.{Unknown}
+use Rattle.kernel.specs.declared.InRounds.{InRounds}
 use Rattle.kernel.specs.declared.InRounds.the-variants.{Refused as RefusedInRounds, Accepted as AcceptedInRounds}
 use Rattle.kernel.specs.declared.Scheduled.the-variants.{Refused as RefusedScheduled}
 
@@ -174,6 +175,14 @@ module _ (s memory input output : List ℕ) where
   rounds-few {r} a =
       let accepted = demand2-answered .accepted r a in
       omega (arith, accepted .few, few-wires s memory input output (accepted .given) (accepted .passes))
+
+  -- so its answer can be packed
+  pub rounds-packable : Packable (roundsCall s memory input output .answer)
+  rounds-packable = go (roundsCall s memory input output .answer) refl
+    where
+      go : (answer : InRounds) → roundsCall s memory input output .answer ≡ answer → Packable answer
+      go (RefusedInRounds why place) e = let within = rounds-refusals e .1 in omega arith
+      go (AcceptedInRounds rounds) e = let few = rounds-few e in omega arith
 
   module _ (list : List ℕ) where
     -- the scheduled instant refuses with 1 to 19

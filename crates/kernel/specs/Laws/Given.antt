@@ -3,7 +3,6 @@ use mathlib.Core.Path.{_≡_, sym, ap, subst, _∙_}
 use Prim.Native.Nat.{ℕ, _*_}
 use mathlib.Core.List.{List}
 use lib.ListN.{length}
-use borrow.Author.Tests.{eq-eqb}
 use Rattle.sheet.specs.Outcomes.{result}
 use Rattle.sheet.specs.Sheets.{Sheet, sheetForms, sheetOf}
 use Rattle.sheet.specs.Memory.{memoryOf}
@@ -27,11 +26,11 @@ given-by s memory input output given e =
     let (sized, e₇) = length-passed _ (length output) (4 * length (sheet .outputs)) _ e₆ in
     subst (GivenBy s memory input output) (same-result e₇) (record { sheet = e₁; cells = e₃; inputs = e₅; outputs = sized })
 
-pub by-given : (s memory input output : List ℕ) (given : Given) → GivenBy s memory input output given
-    → givenOf s memory input output ≡ result given
+-- of the output row only the length counts
+pub given-row : (s memory input output other : List ℕ) → length output ≡ length other
+    → givenOf s memory input output ≡ givenOf s memory input other
 unfolding givenOf
-by-given s memory input output given h =
-    rw (h .sheet) (rw (h .cells) (rw (h .inputs) (rw (eq-eqb (length output) (4 * length (given .sheet .outputs)) (h .outputs)))))
+given-row s memory input output other sized = rw sized
 
 pub given-same : (s memory input output other : List ℕ) (given second : Given)
     → givenOf s memory input output ≡ result given → givenOf s memory input other ≡ result second → given ≡ second
@@ -39,5 +38,6 @@ given-same s memory input output other given second e f =
     let g = given-by s memory input output given e in
     let h = given-by s memory input other second f in
     let sheet : second .sheet ≡ given .sheet = cc in
-    let sized : length other ≡ 4 * length (given .sheet .outputs) = h .outputs ∙ ap (λ (x : Sheet). 4 * length (x .outputs)) sheet in
-    same-result (sym (by-given s memory input other given (record { sheet = g .sheet; cells = g .cells; inputs = g .inputs; outputs = sized })) ∙ f)
+    let sized : length output ≡ length other =
+    g .outputs ∙ ap (λ (x : Sheet). 4 * length (x .outputs)) (sym sheet) ∙ sym (h .outputs) in
+    same-result (sym e ∙ given-row s memory input output other sized ∙ f)

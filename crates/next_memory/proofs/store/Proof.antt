@@ -5,7 +5,7 @@ use mathlib.Core.Path.{_≡_, refl, ap, _∙_}
 use native.Mathlib.Omega.{arith}
 use lib.ListN.{length}
 use borrow.Author.Needs.{needs}
-use Rattle.next_memory.specs.Settled.{Settled}
+use Rattle.rounds.specs.Settled.{Settled}
 use Rattle.next_memory.proofs.Storing.{Stored, unstored, ready, one-stored, none-stored, all-stored}
 use Rattle.next_memory.proofs.store.Statement.{statement}
 use Rattle.next_memory.proofs.store.Tie as tie

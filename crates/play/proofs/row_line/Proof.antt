@@ -25,38 +25,38 @@ add-end c = search needs
 add-next : tie.Need-add-next
 add-next c = let within = fits (c .before .before .before .before .before) in search needs
 
-sub-in-rounds : tie.Need-sub-in-rounds
-sub-in-rounds c = search needs
+sub-instant : tie.Need-sub-instant
+sub-instant c = search needs
 
-part-in-rounds-start : tie.Need-part-in-rounds-start
-part-in-rounds-start c = search needs
+part-instant-start : tie.Need-part-instant-start
+part-instant-start c = search needs
 
-part-in-rounds-end : tie.Need-part-in-rounds-end
-part-in-rounds-end c = search needs
+part-instant-end : tie.Need-part-instant-end
+part-instant-end c = search needs
 
-slice-relend-prefix-in-rounds : tie.Need-slice-relend-prefix-in-rounds
-slice-relend-prefix-in-rounds c = search needs
+slice-relend-prefix-instant : tie.Need-slice-relend-prefix-instant
+slice-relend-prefix-instant c = search needs
 
-slice-aggregate-in-rounds : tie.Need-slice-aggregate-in-rounds
-slice-aggregate-in-rounds c = sym (length-take-le _ _ (slice-relend-prefix-in-rounds (c .before)))
+slice-aggregate-instant : tie.Need-slice-aggregate-instant
+slice-aggregate-instant c = sym (length-take-le _ _ (slice-relend-prefix-instant (c .before)))
 
-sub-in-rounds-2 : tie.Need-sub-in-rounds-2
-sub-in-rounds-2 c = search needs
+sub-instant-2 : tie.Need-sub-instant-2
+sub-instant-2 c = search needs
 
-part-in-rounds-start-2 : tie.Need-part-in-rounds-start-2
-part-in-rounds-start-2 c = search needs
+part-instant-start-2 : tie.Need-part-instant-start-2
+part-instant-start-2 c = search needs
 
-part-in-rounds-end-2 : tie.Need-part-in-rounds-end-2
-part-in-rounds-end-2 c = fits (c .before .before .before .before .before .before .before)
+part-instant-end-2 : tie.Need-part-instant-end-2
+part-instant-end-2 c = fits (c .before .before .before .before .before .before .before)
 
 array-borrow-prefix-output : tie.Need-array-borrow-prefix-output
 array-borrow-prefix-output c = search needs
 
-slice-aggregate-in-rounds-2 : tie.Need-slice-aggregate-in-rounds-2
-slice-aggregate-in-rounds-2 c = sym (length-take-le _ _ (array-borrow-prefix-output (c .before)))
+slice-aggregate-instant-2 : tie.Need-slice-aggregate-instant-2
+slice-aggregate-instant-2 c = sym (length-take-le _ _ (array-borrow-prefix-output (c .before)))
 
-in-rounds-requires : tie.Need-in-rounds-requires
-in-rounds-requires c κs = search needs
+instant-requires : tie.Need-instant-requires
+instant-requires c κs = search needs
 
 enum-known-why : tie.Need-enum-known-why
 enum-known-why c = search needs
@@ -64,7 +64,7 @@ enum-known-why c = search needs
 refused-line-requires : tie.Need-refused-line-requires
 refused-line-requires c κs =
     let call = c .before .before .before .before .before .before .before in
-    (search needs, rounds-refusals _ _ _ _ (sym (call .in-rounds .ensures .answers) ∙ c .before .before .why .given .1) .1)
+    (search needs, rounds-refusals _ _ _ _ (sym (call .instant .ensures .answers) ∙ c .before .before .why .given .1) .1)
 
 final-line-requires : tie.Need-final-line-requires
 final-line-requires c κs = search needs
@@ -78,7 +78,7 @@ array-share-prefix-output c =
     let a = call .before .before .before .before .before .before .before .before .before .before in
     omega (
       arith,
-      length-front (zeros 64) (call .in-rounds .last .1 .1 .1 .0) (a .args .progress .output) (call .in-rounds .kept .1 .1 .1 .0),
+      length-front (zeros 64) (call .instant .last .1 .1 .1 .0) (a .args .progress .output) (call .instant .kept .1 .1 .1 .0),
       a .pre .1 .0 .output,
     )
 
@@ -109,7 +109,7 @@ returns c =
     let a = first .before .before .before .before in
     final (c .final-line .ensures) (c .before .before .before .refused-line .ensures)
     (refused-text (a .args .bytes .now) (a .args .progress) (a .pre .1 .0) (a .pre .1 .1) (a .args .memory .now)
-    (first .sheet-length .ensures .0) (call .in-rounds .ensures) (c .before .before .before .before .before .before .why .given .1))
+    (first .sheet-length .ensures .0) (call .instant .ensures) (c .before .before .before .before .before .before .why .given .1))
 
 same-length-3 : tie.Need-same-length-3
 same-length-3 c = search needs
@@ -123,9 +123,9 @@ returns-2 c =
     let first = call .before .before .before .before .before .before in
     let a = first .before .before .before .before in
     accepted-line (a .args .bytes .now) (a .args .progress) (a .pre .1 .0) (a .pre .1 .1) (a .args .memory .now)
-    (first .sheet-length .ensures .0) (call .in-rounds .ensures) (c .before .before .before .before .before .before .enum-told .given .1)
+    (first .sheet-length .ensures .0) (call .instant .ensures) (c .before .before .before .before .before .before .enum-told .given .1)
     (a .pre .0 .cells)
-    (call .in-rounds .kept .1 .0) (call .in-rounds .kept .1 .1 .1 .0) (c .next-instant .ensures) (c .before .before .before .row-line .ensures)
+    (call .instant .kept .1 .0) (call .instant .kept .1 .1 .1 .0) (c .next-instant .ensures) (c .before .before .before .row-line .ensures)
 
 pub row-line-spec : {M : Type 1} → statement M
 row-line-spec =
@@ -134,17 +134,17 @@ row-line-spec =
     sheet-length-requires
     add-end
     add-next
-    sub-in-rounds
-    part-in-rounds-start
-    part-in-rounds-end
-    slice-relend-prefix-in-rounds
-    slice-aggregate-in-rounds
-    sub-in-rounds-2
-    part-in-rounds-start-2
-    part-in-rounds-end-2
+    sub-instant
+    part-instant-start
+    part-instant-end
+    slice-relend-prefix-instant
+    slice-aggregate-instant
+    sub-instant-2
+    part-instant-start-2
+    part-instant-end-2
     array-borrow-prefix-output
-    slice-aggregate-in-rounds-2
-    in-rounds-requires
+    slice-aggregate-instant-2
+    instant-requires
     enum-known-why
     refused-line-requires
     final-line-requires

@@ -1,0 +1,2 @@
+-- What the proof of `instant` uses.
+pub mod Passing

@@ -1,5 +1,5 @@
-/* The library against C, in one run: for each call and group of sheets the times and their ratio, then the stack of each call. Rests on
- * the sheets, the agreement, the times and the stack.
+/* The library against C, in one run: for each call and group of sheets the times and their ratio, then the visits of the rounds and the
+ * stack of each call. Rests on the sheets, the agreement, the times, the visits and the stack.
  *
  * Usage: benchmark
  */
@@ -7,6 +7,7 @@
 #include "benchmark/sheets.h"
 #include "benchmark/stack.h"
 #include "benchmark/times.h"
+#include "benchmark/visits.h"
 
 #include <stdio.h>
 
@@ -27,6 +28,8 @@ int main(void)
         for (unsigned call = 0; call < calls; call++)
             print_times(call, &groups[index]);
     }
+    for (unsigned index = 0; index < groups_timed; index++)
+        print_visits(&groups[index]);
     for (unsigned call = 0; call < calls; call++)
         printf("stack of %s: %zu bytes\n", rules_of[call].name, stack_of_call(call, groups, groups_timed));
     return 0;

@@ -6,12 +6,23 @@
 #include "generator/rows.h"
 #include "generator/spoiling.h"
 
+enum { refused_as_unknown = 20 };
+
+static void count_unknown(unsigned long *count, uint32_t place)
+{
+    count[counter_unknown_above_lowest] += place > 0;
+    if (place > count[counter_highest_unknown])
+        count[counter_highest_unknown] = place;
+}
+
 static uint32_t compare_rounds(struct harness *harness, struct workspace *workspace)
 {
     const struct subject *const subject = &workspace->subject;
     const struct buffers *const given = &workspace->given;
     unsigned long *const count = harness->statistics.count;
     const uint32_t rounds = compare_call(harness, call_rounds, given, &workspace->by_rounds);
+    if (rounds / first_refusal == refused_as_unknown)
+        count_unknown(count, rounds % first_refusal);
     if (rounds >= first_refusal)
         return rounds;
     if (rounds == 0 || rounds > subject->wires + 1)

@@ -12,6 +12,8 @@ enum counter {
     counter_instants_both_ways,
     counter_instants_without_schedule,
     counter_most_rounds,
+    counter_unknown_above_lowest,
+    counter_highest_unknown,
     counter_instants_along_made_list,
     counter_lower_wires_refused,
     counter_loops_of_one,

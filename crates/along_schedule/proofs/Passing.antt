@@ -46,7 +46,8 @@ module _ {s memory input output places firsts reads start types outputs : List �
   pub order-passed : {list : List ℕ} → PassedOrder ≡ orderedAnswer (scheduleOf (given g .sheet) list) → IsSchedule (given g .sheet) list
   order-passed {list} e = go (scheduleOf (given g .sheet) list) refl e
     where
-      go : (o : Outcome (List ℕ)) → scheduleOf (given g .sheet) list ≡ o → PassedOrder ≡ orderedAnswer o → IsSchedule (given g .sheet) list
+      go : (o : Outcome (List ℕ)) → scheduleOf (given g .sheet) list ≡ o → PassedOrder ≡ orderedAnswer o
+          → IsSchedule (given g .sheet) list
       go (refusal w p) q e = never (cc)
       go (result order) q e = passed-schedule (given g .sheet) list (schedule-passed (given g .sheet) list order q .1)
 

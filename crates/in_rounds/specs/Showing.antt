@@ -1,9 +1,8 @@
--- What an instant in rounds comes to before anything is stored, and the answer from its known wires.
+-- What an instant in rounds comes to before anything is stored, and the answer from its last round.
 use Prim.Native.Nat.{ℕ}
 use mathlib.Core.Path.{_≡_}
 use mathlib.Core.Bool.{Bool, cond}
 use mathlib.Core.List.{List}
-use Rattle.wires.specs.Sets.{member, LowestMissing}
 use Rattle.sheet.specs.declared.Refusal.{Refusal}
 use Rattle.sheet.specs.declared.Refusal.the-variants.{StaysUnknown}
 use Rattle.kernel.specs.Calls.{InstantCall, Shows}
@@ -14,11 +13,9 @@ use Rattle.given.specs.Grants.{part, LiesIn}
 use Rattle.in_rounds.specs.declared.Shown.{Shown}
 use Rattle.in_rounds.specs.declared.Shown.the-variants.{Refused, Accepted}
 
--- accepted where all wires are known, else 20 at the lowest wire that the set misses
-pub record Answers (full : Bool) (rounds bits from to : ℕ) (answer : Shown) : Type 0 where
-  pub place : ℕ
-  pub lowest : LowestMissing (member bits) 64 place
-  pub is : answer ≡ cond full (Accepted rounds from to) (Refused StaysUnknown place)
+-- accepted where all wires are known, else 20 at the last unknown wire that the last round met
+abbrev pub answerFrom : (full : Bool) (rounds last from to : ℕ) → Shown
+answerFrom full rounds last from to = cond full (Accepted rounds from to) (Refused StaysUnknown last)
 
 -- the answer of the instant
 abbrev pub answerOf : Shown → InRounds

@@ -4,12 +4,11 @@ use given::Given;
 use kernel::InRounds;
 use sheet::Refusal;
 use sheet::refusals;
-use wires::Wires;
 ghost use mathlib.Core.Path.{_≡_};
 ghost use Prim.Native.Nat.{_≤_};
 ghost use lib.ListN.{length};
 ghost use Rattle.kernel.specs.Calls.{roundsCall, Shows, Leaves, packedRounds, Packable};
-ghost use Rattle.in_rounds.specs.Showing.{Answers, Prepares};
+ghost use Rattle.in_rounds.specs.Showing.{answerFrom, Prepares};
 
 // What an instant in rounds comes to before anything is stored: a refusal, or the rounds, and where the types of the wires stand.
 enum Shown {
@@ -126,16 +125,15 @@ fn show(
             if full {
                 rounds::write_row(&sheet[outputs_from..outputs_to], words, output);
             }
-            answered(full, solved.rounds, known, types_from, types_to)
+            answered(full, solved.rounds, solved.last, types_from, types_to)
         }
     }
 }
 
-// The answer, by whether all wires are known: 20 at the lowest wire that is not.
-fn answered(full: bool, rounds: usize, known: Wires, from: usize, to: usize) -> Shown
-    ensures { λ r. ⌜ Answers full rounds (known .bits) from to r ⌝ }
+// The answer, by whether all wires are known: 20 at the last unknown wire that the last round met.
+fn answered(full: bool, rounds: usize, last: usize, from: usize, to: usize) -> Shown
+    ensures { λ r. ⌜ r ≡ answerFrom full rounds last from to ⌝ }
 {
-    let place = known.lowest_missing() as usize;
     if full {
         return Shown::Accepted {
             rounds,
@@ -145,7 +143,7 @@ fn answered(full: bool, rounds: usize, known: Wires, from: usize, to: usize) -> 
     }
     Shown::Refused {
         why: Refusal::StaysUnknown,
-        place,
+        place: last,
     }
 }
 

@@ -84,7 +84,7 @@ pub record Leaves {Answer : Type 0} (call : InstantCall Answer) (answer : Answer
   pub stores : memory ≡ call .memory
   pub writes : output ≡ call .output
 
-abbrev leftBy : {Answer : Type 0} → (Outcome Accepted → Answer) → Outcome Accepted → (memory output : List ℕ) → InstantCall Answer
+abbrev pub leftBy : {Answer : Type 0} → (Outcome Accepted → Answer) → Outcome Accepted → (memory output : List ℕ) → InstantCall Answer
 leftBy answer o memory output =
     record { answer = answer o; memory = holdsAfter o (λ a. a .memory) memory; output = holdsAfter o (λ a. a .output) output }
 

@@ -9,6 +9,7 @@ pub mod Passes
 pub mod Agreement
 pub mod Knowing
 pub mod Instants
+pub mod Keeping
 pub mod Due
 pub mod Solutions
 pub mod Schedules

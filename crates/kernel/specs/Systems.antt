@@ -1,8 +1,8 @@
 -- A system of n wires, whose function `next` works all of them out from their values: rounds, the finished values, solutions,
--- visits to one wire at a time, and rounds that pass wires over.
+-- visits to one wire at a time, and rounds that pass known wires over.
 use Prim.Native.Nat.{ℕ, zero, suc, _<_}
 use mathlib.Core.Path.{_≡_}
-use mathlib.Core.Bool.{Bool, true, not, _&&_, cond}
+use mathlib.Core.Bool.{Bool, true, cond}
 use mathlib.Core.List.{List, [], _∷_}
 use lib.ListN.{length, set}
 use Rattle.sheet.specs.Outcomes.{lowest}
@@ -11,6 +11,7 @@ use Rattle.kernel.specs.Order.{_⊑*_, valueAt, allUnknown}
 use Rattle.kernel.specs.Equality.{sameValues}
 use Rattle.sheet.specs.Lists.{among}
 use Rattle.kernel.specs.declared.Value.{Value}
+use Rattle.kernel.specs.declared.Value.the-variants.{Unknown, Known}
 
 -- no wire is unknown
 unfoldable pub Full : ℕ → List Value → Type 0
@@ -25,15 +26,29 @@ pub record Monotone (n : ℕ) (next : List Value → List Value) : Type 0 where
   pub sized : (xs : List Value) → length (next xs) ≡ n
   pub grows : (xs ys : List Value) → xs ⊑* ys → next xs ⊑* next ys
 
--- each wire that is unknown and not passed over gets its new value, every other one stays as it was
-unfoldable pub renewed : (passed : ℕ → Bool) (new : ℕ → Value) → List Value → List Value
-renewed passed new [] = []
-renewed passed new (v ∷ vs) = cond (isUnknown v && not (passed 0)) (new 0) v ∷ renewed (λ w. passed (suc w)) (λ w. new (suc w)) vs
+-- a known value stays as it was, an unknown one becomes what is worked out
+abbrev pub keptOr : (before worked : Value) → Value
+keptOr Unknown worked = worked
+keptOr (Known d) worked = Known d
+
+unfoldable pub renewed : (worked : ℕ → Value) → List Value → List Value
+renewed worked [] = []
+renewed worked (v ∷ vs) = keptOr v (worked 0) ∷ renewed (λ w. worked (suc w)) vs
+
+-- K4's walk, from the wire below w down to wire 0: the last unknown wire that it meets, or `met` where it meets none
+unfoldable pub lastMet : List Value → (w met : ℕ) → ℕ
+lastMet values zero met = met
+lastMet values (suc w) met = lastMet values w (cond (isUnknown (valueAt values w)) w met)
+
+-- of n wires; n where none is unknown
+abbrev pub lastUnknown : ℕ → List Value → ℕ
+lastUnknown n values = lastMet values n n
 
 module _ (next : List Value → List Value) where
-  -- a round over the wires that are unknown and not passed over, which are worked out from the values before
-  unfoldable pub roundOver : (passed : ℕ → Bool) → List Value → List Value
-  roundOver passed values = renewed passed (valueAt (next values)) values
+  -- K4's round over any values, even false ones: each known wire comes back as it was, each unknown one gets what is worked out for it
+  -- from the values given
+  unfoldable pub roundOver : List Value → List Value
+  roundOver values = renewed (valueAt (next values)) values
 
   -- known or unknown, each wire has just what is worked out under these values
   unfoldable pub Solution : List Value → Type 0

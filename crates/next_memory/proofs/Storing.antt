@@ -1,7 +1,7 @@
 -- How the storing of a memory goes on: the wires below w have stored their cells, and the cells of those that are left still stand.
 use Prim.Native.Nat.{ℕ, zero, suc, _+_, _*_, _≤_, _<_, zero-le}
 use mathlib.Core.Path.{_≡_, refl, sym, ap, _∙_}
-use mathlib.Core.Bool.{Bool, true, false}
+use mathlib.Core.Bool.{false}
 use mathlib.Core.List.{List, [], _∷_, _++_}
 use native.Mathlib.Numerals.{add-one}
 use native.Mathlib.Omega.{arith}
@@ -16,7 +16,7 @@ use Rattle.sheet.specs.declared.Cell.{Cell}
 use Rattle.sheet.specs.declared.Datum.the-variants.{Boolean}
 use Rattle.numbers.specs.Laws.{sets-all, sets-append}
 use Rattle.sheet_expressions.proofs.Drawing.{forms-snoc}
-use Rattle.kernel.specs.Values.{IsKnown, known}
+use Rattle.kernel.specs.Values.{IsKnown}
 use Rattle.kernel.specs.Order.{valueAt}
 use Rattle.kernel.specs.Systems.{Full}
 use Rattle.kernel.specs.Instant.{Environment, under, stored}
@@ -24,9 +24,8 @@ use Rattle.kernel.specs.Instants.{storedCells, nextMemory}
 use Rattle.storing.specs.declared.advance.Advanced.{Advanced}
 use Rattle.expression.specs.Places.{CellsStand}
 use Rattle.expression.proofs.Views.{cells-split}
-use Rattle.kernel.specs.declared.Value.{Value}
-use Rattle.rounds.specs.Running.{Held, held}
 use Rattle.rounds.proofs.Wires.{wires-counted, running-stands}
+use Rattle.rounds.proofs.Rounding.{known-held}
 use Rattle.storing.specs.Advances.{Ready, Advances}
 use Rattle.storing.proofs.Standing.{cells-past, memory-append, stored-length}
 use Rattle.rounds.specs.Settled.{Settled, storedOf}
@@ -52,10 +51,6 @@ first-within es zero = zero-le
 first-within [] (suc w) = zero-le
 first-within (e ∷ es) (suc w) =
     omega (arith, first-within es w, length-append (cellForms e) (formsOf (take w es)), length-append (cellForms e) (formsOf es))
-
--- a known wire is in the set
-held-known : {b : Bool} {word : ℕ} {v : Value} → Held b word v → IsKnown v → b ≡ true
-held-known (held e) known = refl
 
 full-at : {s start types places firsts words : List ℕ} (f : Settled s start types places firsts words) (w : ℕ) → w < length types
     → IsKnown (valueAt (f .values) w)
@@ -131,7 +126,7 @@ module _ {s start types places firsts words : List ℕ} (f : Settled s start typ
         let count : here .count ≡ first (suc w) = omega (arith, extent .counted, here .first, t .counted) in
         record {
           bits = f .bits;
-          full = λ x m. held-known (f .holds .each x m) (full-at f x m);
+          full = λ x m. known-held (full-at f x m) (f .holds .each x m);
           place = record {
             inputs = f .running .inputs;
             wires = types;

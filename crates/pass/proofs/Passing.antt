@@ -1,6 +1,6 @@
 -- How a pass goes on: the values so far, of which the set and the words hold each, and the rest of the list, whose wires are unknown.
 use Prim.Native.Nat.{ℕ, _+_, _≤_, _<_}
-use mathlib.Core.Path.{_≡_, refl, sym, ap, _∙_}
+use mathlib.Core.Path.{_≡_, refl, sym, _∙_}
 use mathlib.Core.Logic.{_≢_}
 use mathlib.Core.Bool.{false}
 use mathlib.Core.Option.{some}
@@ -9,6 +9,7 @@ use native.Mathlib.Numerals.{add-one}
 use native.Mathlib.Omega.{arith}
 use lib.ListN.{length, getD, getElem?, drop, set, length-set, length-replicate}
 use lib.Seq.{drop-cons, drop-length, getD-set-same, getD-set-other}
+use Rattle.wires.specs.Laws.{at-or-else}
 use Rattle.wires.specs.Sets.{member}
 use Rattle.sheet.specs.Data.{ValueType}
 use Rattle.kernel.specs.Values.{Fits, unknown-fits}
@@ -26,7 +27,7 @@ use Rattle.leaves.specs.Words.{inputWords}
 use Rattle.expression.specs.Places.{Placement, wholeValue}
 use Rattle.rounds.specs.Running.{Running, Held, unheld, Holds, Put}
 use Rattle.rounds.proofs.Wires.{wires-counted, wire-placed, wire-valued}
-use Rattle.rounds.proofs.Rounding.{at-or-else, put-length, put-inputs, put-other, put-held}
+use Rattle.rounds.proofs.Rounding.{put-length, put-inputs, put-other, put-held}
 use Rattle.pass.specs.Along.{Along, passedOf}
 
 module _ {s memory types places firsts list start : List ℕ} (a : Along s memory types places firsts list start) where

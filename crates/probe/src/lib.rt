@@ -21,7 +21,8 @@ pub extern "C" fn probe_schedule(sheet: &[u8], list: &mut [u8]) -> u32
 // The preview of the instant in rounds: the rounds, or a refusal; the row gets the outputs.
 #[no_mangle]
 pub extern "C" fn probe_preview(sheet: &[u8], memory: &[u8], input: &[u8], output: &mut [u8]) -> u32
-    ensures { λ r. ⌜ r ≡ packedRounds (roundsCall (now (sheet .entry)) (now (memory .entry)) (now (input .entry)) (now (output .entry)) .answer) ⌝ }
+    ensures { λ r. ⌜ r
+        ≡ packedRounds (roundsCall (now (sheet .entry)) (now (memory .entry)) (now (input .entry)) (now (output .entry)) .answer) ⌝ }
     ensures { λ _. ⌜ now (output .exit)
         ≡ roundsCall (now (sheet .entry)) (now (memory .entry)) (now (input .entry)) (now (output .entry)) .output ⌝ }
 {

@@ -1,7 +1,7 @@
 -- From round to round: each knows more wires than the one before, and where one knows no more the rounds have finished.
 use Prim.Native.Nat.{ℕ, suc, _+_, _≤_, _<_}
 use mathlib.Core.Path.{subst, _≡_, refl, sym, ap, _∙_}
-use mathlib.Core.Bool.{Bool, true, false, not, _&&_, cond}
+use mathlib.Core.Bool.{Bool, true, false, not, _&&_, cond, true≢false}
 use mathlib.Core.List.{List, [], _∷_}
 use native.Mathlib.Nat.{lt-of-not-le}
 use native.Mathlib.Numerals.{add-one}
@@ -9,25 +9,28 @@ use native.Mathlib.Omega.{arith}
 use lib.Dec.{ltb}
 use lib.ListN.{length, getD, length-replicate}
 use borrow.Author.Count.{below-more}
-use borrow.Author.Tests.{ltb-true, ltb-false}
+use borrow.Author.Tests.{ltb-true, lt-ltb}
 use Rattle.wires.specs.Sets.{member, tally}
 use Rattle.wires.specs.Laws.{tally-beyond, tally-front, tally-grows}
-use Rattle.sheet.specs.Laws.Lists.{never}
+use Rattle.readers.specs.Readers.{Readers, Reading}
+use Rattle.sheet.specs.Lists.{among}
+use Rattle.sheet.specs.Laws.Lists.{never, both}
 use Rattle.kernel.specs.Order.{_⊑*_, valueAt, knownCount}
 use Rattle.kernel.specs.Order as Order
 use Rattle.kernel.specs.Systems as System
-use Rattle.kernel.specs.Instants.{wireCount, rounds, finished}
+use Rattle.kernel.specs.Instants.{wireCount, readsAt, rounds, finished}
 use Rattle.kernel.specs.Laws.Order.{unknown-at}
 use Rattle.kernel.specs.Laws.Counting.{count-same}
-use Rattle.kernel.specs.Laws.Rounds.{climbs, rounds-unique}
-use Rattle.kernel.specs.Laws.Due.{NoneDue, first-whole, due-whole}
+use Rattle.kernel.specs.Laws.Rounds.{after-length, climbs, rounds-unique}
+use Rattle.kernel.specs.Laws.Keeping.{over-grown}
+use Rattle.kernel.specs.Laws.Due.{rests-unknown}
 use Rattle.kernel.specs.Laws.Instants.{round-monotone}
 use Rattle.kernel.specs.Laws.Memory.{after-typed}
 use Rattle.kernel.specs.declared.Value.{Value}
 use Rattle.kernel.specs.declared.Value.the-variants.{Unknown}
 use Rattle.leaves.specs.Words.{inputWords}
 use Rattle.rounds.specs.Running.{Held, unheld, held, Holds, Running, RunningReads, roundOf, Before}
-use Rattle.rounds.specs.Due.{NotDue}
+use Rattle.rounds.specs.Due.{DueIn, every-due}
 use Rattle.rounds.proofs.Wires.{wires-counted}
 use Rattle.rounds.proofs.Rounding.{out-unknown, unknown-out}
 
@@ -52,11 +55,6 @@ held-count {n} {bits} {words} {values} h few =
     ∙ ap (tally (member bits)) (sym (h .size))
     ∙ each-counted (member bits) (λ w. getD words w 0) values (λ w l. h .each w (omega (arith, h .size)))
 
--- what was not there and is not new is not there
-not-new : (g b : Bool) → (g && not b) ≡ false → b ≡ false → g ≡ false
-not-new true b e f = sym (ap not f) ∙ e
-not-new false b e f = refl
-
 module _ {s memory row types places firsts reads : List ℕ} (run : RunningReads s memory row types places firsts reads) where
   abbrev r : Running s memory row types places firsts
   r = run .running
@@ -70,18 +68,18 @@ module _ {s memory row types places firsts reads : List ℕ} (run : RunningReads
   ascends : (k : ℕ) → after k ⊑* after (suc k)
   ascends k = climbs (wireCount (r .given .sheet)) (roundOf r) monotone k (suc k) (omega arith)
 
-  -- after k rounds, of which each changed something; the next one may pass over the wires of the set, all known ones among them
-  pub record Rounded (k bits passed : ℕ) (words : List ℕ) : Type 0 where
+  -- after k rounds, of which each changed something, with the wires that are due in the next
+  pub record Rounded (k bits due : ℕ) (words : List ℕ) : Type 0 where
     pub holds : Holds (length types) row bits words (after k)
     pub changed : (j : ℕ) → j < k → after j ≡ after (suc j) → ⊥
-    pub known : (w : ℕ) → member bits w ≡ true → member passed w ≡ true
-    pub whole : System.roundOver (roundOf r) (member passed) (after k) ≡ after (suc k)
+    pub whichDue : DueIn (length types) bits due (after (suc k))
 
-  pub unrounded : {bits passed : ℕ} {words : List ℕ} → inputWords words ≡ row → length types ≤ length words
+  -- before the first round every wire is due
+  pub unrounded : {bits due : ℕ} {words : List ℕ} → inputWords words ≡ row → length types ≤ length words
       → ((w : ℕ) → member bits w ≡ false)
-      → ((w : ℕ) → member passed w ≡ false) → Rounded 0 bits passed words
+      → ((w : ℕ) → member due w ≡ ltb w (length types)) → Rounded 0 bits due words
   unfolding System.after
-  unrounded {passed = passed} inputs room none nothing =
+  unrounded {due = due} inputs room none all =
       let n = wireCount (r .given .sheet) in
       record {
         holds = record {
@@ -92,12 +90,11 @@ module _ {s memory row types places firsts reads : List ℕ} (run : RunningReads
           beyond = λ w l. none w;
         };
         changed = λ j l. absurd (omega arith);
-        known = λ w e. never (cc (none w));
-        whole = first-whole n (roundOf r) monotone (member passed) nothing;
+        whichDue = every-due all;
       }
 
-  pub before : {k bits passed : ℕ} {words : List ℕ} → Rounded k bits passed words
-      → Before s memory row types places firsts bits passed words
+  pub before : {k bits due : ℕ} {words : List ℕ} → Rounded k bits due words
+      → Before s memory row types places firsts bits due words
   unfolding System.after
   before {k} h =
       record {
@@ -105,28 +102,35 @@ module _ {s memory row types places firsts reads : List ℕ} (run : RunningReads
         values = after k;
         holds = h .holds;
         typed = after-typed (r .given .sheet) (r .given .inputs) (r .given .memory) (r .wellTyped) (r .validInputs) (r .validMemory) k;
-        known = h .known;
+        whichDue = h .whichDue;
       }
 
   -- by the inputs' words as they stand there
-  pub before-here : {k bits passed : ℕ} {words : List ℕ} → Rounded k bits passed words
-      → Before s memory (inputWords words) types places firsts bits passed words
-  before-here {bits = bits} {passed} {words} h =
-      subst (λ (x : List ℕ). Before s memory x types places firsts bits passed words) (sym (h .holds .inputs)) (before h)
+  pub before-here : {k bits due : ℕ} {words : List ℕ} → Rounded k bits due words
+      → Before s memory (inputWords words) types places firsts bits due words
+  before-here {bits = bits} {due} {words} h =
+      subst (λ (x : List ℕ). Before s memory x types places firsts bits due words) (sym (h .holds .inputs)) (before h)
 
   -- what a round makes of the values before it, and of the inputs' words
-  abbrev pub Made : (row : List ℕ) (bits passed : ℕ) (words : List ℕ) (grown : ℕ) (new : List ℕ) → Type 0
-  Made row bits passed words grown new = (b : Before s memory row types places firsts bits passed words)
-      → Holds (length types) row grown new (System.roundOver (roundOf (b .running)) (member passed) (b .values))
+  abbrev pub Made : (row : List ℕ) (bits due : ℕ) (words : List ℕ) (grown last : ℕ) (new : List ℕ) → Type 0
+  Made row bits due words grown last new = (b : Before s memory row types places firsts bits due words)
+      → Holds (length types) row grown new (System.roundOver (roundOf (b .running)) (b .values))
+      × (last ≡ System.lastUnknown (length types) (b .values))
 
   -- One round more.
-  module _ {k bits passed grown : ℕ} {words new : List ℕ} (h : Rounded k bits passed words)
-      (made : Made (inputWords words) bits passed words grown new) where
-    next : Holds (length types) row grown new (after (suc k))
+  module _ {k bits due grown last : ℕ} {words new : List ℕ} (h : Rounded k bits due words)
+      (made : Made (inputWords words) bits due words grown last new) where
+    here : Holds (length types) row grown new (System.roundOver (roundOf r) (after k))
+        × (last ≡ System.lastUnknown (length types) (after k))
     unfolding before
+    here = subst (λ (x : List ℕ). Made x bits due words grown last new) (h .holds .inputs) made (before h)
+
+    -- as the values grow, it is the round of the definition
+    next : Holds (length types) row grown new (after (suc k))
+    unfolding System.after
     next =
-        rw (h .whole) at
-        (subst (λ (x : List ℕ). Made x bits passed words grown new) (h .holds .inputs) made (before h))
+        rw (over-grown (roundOf r) (after k) (monotone .sized (after k) ∙ sym (after-length _ (roundOf r) monotone k)) (ascends k)) at
+        (here .0)
 
     sizes : length (after k) ≡ length (after (suc k))
     sizes = h .holds .size ∙ sym (next .size)
@@ -156,43 +160,54 @@ module _ {s memory row types places firsts reads : List ℕ} (run : RunningReads
         lt-of-not-le (λ l. some (none-added (count-same (after k) (after (suc k)) sizes (ascends k) l))) in
         omega (arith, more, held-count (h .holds) (r .few), held-count next (r .few))
 
-    -- The wires that are not due, by those that are new.
-    module _ {news over : ℕ} (new-are : (x : ℕ) → member news x ≡ (member grown x && not (member bits x)))
-        (not-due : NotDue reads grown news (length types) over) where
-      none-due : NoneDue (r .given .sheet) (member over) (after k) (after (suc k))
-      none-due =
+    -- The wires that are due next: those that read a new one.
+    module _ {news over : ℕ} {readers : List ℕ} (new-are : (x : ℕ) → member news x ≡ (member grown x && not (member bits x)))
+        (turned : Readers reads (length types) readers) (reading : Reading readers news over) where
+      -- an unknown wire that is not due reads none of those which have just become known
+      none-new : (w : ℕ) → w < length types → member over w ≡ false → (x : ℕ)
+          → among x (readsAt (r .given .sheet .expressions) w) ≡ true
+          → valueAt (after k) x ≡ Unknown → valueAt (after (suc k)) x ≡ Unknown
+      none-new w l e x a v = go (member grown x) refl
+        where
+          go : (t : Bool) → member grown x ≡ t → valueAt (after (suc k)) x ≡ Unknown
+          go false out = out-unknown next x out
+          go true new =
+              let inside : x < length types = lt-of-not-le (λ (m : length types ≤ x). true≢false (sym new ∙ next .beyond x m)) in
+              let below : x < 64 = omega (arith, r .few) in
+              let is-new : member news x ≡ true = new-are x ∙ rw (new, unknown-out (h .holds) x v) in
+              let reads-it : member (getD readers x 0) w ≡ true =
+              turned .each x w below ∙ rw (lt-ltb w (length types) l, run .reading w l .same x, a) in
+              never (cc (reading .all w (record { v = x; below = below; among = is-new; reads = reads-it }), e))
+
+      readers-due : DueIn (length types) grown over (after (suc (suc k)))
+      unfolding System.after
+      readers-due =
+          let given = r .given in
           record {
-            rests = λ w l p u x a v.
-                let inside : w < length types = omega (arith, wires-counted r) in
-                let apart = not-due .each w inside .only p (unknown-out next w u) in
-                let old = apart x (run .reading w inside .same x ∙ a) in
-                out-unknown next x
-                (not-new (member grown x) (member bits x) (sym (new-are x) ∙ old) (unknown-out (h .holds) x v));
+            within = λ w e.
+                let one = reading .only w e in
+                let (low, _) = both (ltb w (length types)) (member (getD reads w 0) (one .v))
+                (sym (turned .each (one .v) w (one .below)) ∙ one .reads) in
+                ltb-true w (length types) low;
+            rests = λ w l u e.
+                rests-unknown (given .sheet) (given .inputs) (given .memory) (after k) (ascends k) w (out-unknown next w u)
+                (none-new w l e);
           }
 
-      known-over : (w : ℕ) → member grown w ≡ true → member over w ≡ true
-      known-over w e = go (ltb w (length types)) refl
-        where
-          go : (t : Bool) → ltb w (length types) ≡ t → member over w ≡ true
-          go true l = not-due .each w (ltb-true w (length types) l) .whereKnown e
-          go false l = never (cc (next .beyond w (ltb-false w (length types) l)))
-
       pub one-more : (NoneAdded → ⊥) → Rounded (k + 1) grown over new
-      unfolding System.after
       one-more some =
-          let given = r .given in
-          let whole = due-whole (given .sheet) (given .inputs) (given .memory) (member over) (after k) (ascends k) none-due in
           record {
             holds = rw add-one next;
             changed = below-more (λ j. after j ≡ after (suc j) → ⊥) k (h .changed) (λ e. some (none-added e));
-            known = known-over;
-            whole = rw add-one whole;
+            whichDue = rw add-one readers-due;
           }
 
     pub ended : NoneAdded
-        → Holds (length types) row grown new (finished (r .given .sheet) (r .given .inputs) (r .given .memory))
-        × (k + 1 ≡ rounds (r .given .sheet) (r .given .inputs) (r .given .memory))
+        → let given = r .given in
+        Holds (length types) row grown new (finished (given .sheet) (given .inputs) (given .memory))
+        × (k + 1 ≡ rounds (given .sheet) (given .inputs) (given .memory))
+        × (last ≡ System.lastUnknown (length types) (finished (given .sheet) (given .inputs) (given .memory)))
     unfolding finished rounds System.finished
     ended none =
         let count = rounds-unique (wireCount (r .given .sheet)) (roundOf r) monotone k (unchanged none) (h .changed) in
-        (rw count next, rw add-one (sym count))
+        (rw count next, rw add-one (sym count), here .1 ∙ rw count (ap (System.lastUnknown (length types)) (unchanged none)))

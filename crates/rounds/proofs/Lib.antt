@@ -1,5 +1,4 @@
 -- What the proofs of several functions use.
 pub mod Wires
 pub mod Rounding
-pub mod Passing
 pub mod Finishing

@@ -1,4 +1,4 @@
+pub mod Due
 pub mod Running
 pub mod Settled
-pub mod Due
 pub mod Outputs

@@ -22,6 +22,7 @@ use Rattle.kernel.specs.declared.Value.{Value}
 use Rattle.kernel.specs.declared.Value.the-variants.{Unknown, Known}
 use Rattle.leaves.specs.Words.{inputWords}
 use Rattle.expression.specs.Places.{CellsStand}
+use Rattle.rounds.specs.Due.{DueIn}
 
 -- the bytes that passed the checks, with what they say: `row` are the inputs' words, `types` the wires' type bytes, and the map says where
 -- each wire's expression starts and which cell is its first
@@ -67,13 +68,13 @@ pub record Holds (n : ℕ) (row : List ℕ) (bits : ℕ) (words : List ℕ) (val
 abbrev pub roundOf : {s memory row types places firsts : List ℕ} → Running s memory row types places firsts → List Value → List Value
 roundOf r = round (r .given .sheet) (r .given .inputs) (r .given .memory)
 
--- what runs, with the values before a round and the set of the wires that it passes over, all known ones among them
-pub record Before (s memory row types places firsts : List ℕ) (bits passed : ℕ) (words : List ℕ) : Type 0 where
+-- what runs, with any typed values before a round, even false ones, and the wires that are due in it
+pub record Before (s memory row types places firsts : List ℕ) (bits due : ℕ) (words : List ℕ) : Type 0 where
   pub running : Running s memory row types places firsts
   pub values : List Value
   pub holds : Holds (length types) row bits words values
   pub typed : OnWires Fits (running .given .sheet .wireTypes) values
-  pub known : (w : ℕ) → member bits w ≡ true → member passed w ≡ true
+  pub whichDue : DueIn (length types) bits due (roundOf running values)
 
 -- the value of wire w was put into a set and words: an unknown one changes nothing
 pub data Put (w bits : ℕ) (words : List ℕ) : Value → (after : ℕ) → List ℕ → Type 0 where

@@ -1,26 +1,31 @@
-// The rounds of an instant, each of which works the wires that are due out from the values before it, and the output row of the words.
-// Rests on `expression` for the value of one expression and on `wires` for the set of known wires.
+// The rounds of an instant, each of which goes from the highest wire to the lowest, passes known wires over and works the others out from
+// the values before it; and the output row of the words. Rests on `expression` for the value of one expression, on `wires` for sets and on
+// `readers` for the wires that are due.
 use kernel::Value;
 use sheet::data;
 use sheet_expressions::map;
 use wires::Wires;
-
-pub mod due;
-
 ghost use mathlib.Core.Path.{_≡_};
 ghost use Prim.Native.Nat.{_*_, _≤_, _<_};
 ghost use lib.ListN.{length};
-ghost use Rattle.wires.specs.Sets.{member};
-ghost use Rattle.kernel.specs.Systems.{roundOver};
+ghost use Rattle.kernel.specs.Systems.{lastUnknown, roundOver};
 ghost use Rattle.kernel.specs.Instants.{rounds, finished};
 ghost use Rattle.leaves.specs.Words.{inputWords};
 ghost use Rattle.rounds.specs.Running.{RunningReads, Holds, roundOf, Before, Put};
 ghost use Rattle.rounds.specs.Outputs.{Below, wordsOf};
 
-// What the rounds of an instant come to: the wires that are known, and the rounds that were made.
+// What a round hands back: the known wires, grown or the same, and the last unknown wire that it met, or the count of wires where it
+// met none.
+struct AfterRound {
+    known: Wires,
+    last: usize,
+}
+
+// What the rounds of an instant come to: the known wires, the rounds that were made, and the last unknown wire that the last of them met.
 pub struct Finished {
     pub known: Wires,
     pub rounds: usize,
+    pub last: usize,
 }
 
 // Puts the value of a wire: a known one into the set, and its word into the words.
@@ -37,8 +42,9 @@ pub fn put_value(worth: Value, wire: usize, known: Wires, words: &mut [u32; 80])
     }
 }
 
-// One round over the wires that are not passed over: each is worked out from the values before, where the map says; the set of known wires
-// comes back, grown or the same. No known wire is worked out again, so that the words of the values before are still there.
+// One round over any values, from the highest wire to the lowest. A known wire is passed over and keeps its word; an unknown one that is
+// due is worked out from the values before, where the map says. One that is not due is passed over too: it must be one that would stay
+// unknown. The last unknown wire met is the lowest, due or not, so the set tells it.
 fn round(
     sheet: &[u8],
     memory: &[u8],
@@ -46,31 +52,35 @@ fn round(
     places: &[u16; 64],
     firsts: &[u8; 64],
     before: Wires,
-    passed: Wires,
+    due: Wires,
     words: &mut [u32; 80],
-) -> Wires
+) -> AfterRound
     requires { ⌜ Before (now sheet) (now memory) (inputWords (now words)) (now types) (now places) (now firsts)
-        (before .bits) (passed .bits) (now words) ⌝ }
+        (before .bits) (due .bits) (now words) ⌝ }
     ensures { λ r. ⌜ ((b : Before (now (sheet .entry)) (now (memory .entry)) (inputWords (now (words .entry))) (now (types .entry))
-        (now (places .entry)) (now (firsts .entry)) (before .bits) (passed .bits) (now (words .entry)))
-        → Holds (length (now (types .entry))) (inputWords (now (words .entry))) (r .bits) (now (words .exit))
-        (roundOver (roundOf (b .running)) (member (passed .bits)) (b .values))) ⌝ }
+        (now (places .entry)) (now (firsts .entry)) (before .bits) (due .bits) (now (words .entry)))
+        → Holds (length (now (types .entry))) (inputWords (now (words .entry))) (r .known .bits) (now (words .exit))
+        (roundOver (roundOf (b .running)) (b .values))
+        × (r .last ≡ lastUnknown (length (now (types .entry))) (b .values))) ⌝ }
 {
     let mut grown = before;
-    let mut seen = passed;
-    let mut w = passed.lowest_missing() as usize;
-    while w < types.len() {
+    let mut left = due.minus(before);
+    let mut end = left.end() as usize;
+    while end > 0 {
+        let w = end - 1;
         let at = map::place(places[w]);
         let cell = numbers::length_of(firsts[w]);
         let worth = expression::value_of_wire(sheet, memory, before, words, types[w], at, cell);
         grown = put_value(worth, w, grown, words);
-        seen = seen.with(w);
-        w = seen.lowest_missing() as usize;
+        left = left.without(w);
+        end = left.end() as usize;
     }
-    grown
+    let last = before.lowest_missing() as usize;
+    AfterRound { known: grown, last }
 }
 
-// The rounds from all wires unknown to the first that changes nothing; from the second on, each goes over the wires that are due.
+// The rounds from all wires unknown to the first that changes nothing. In the first every wire is due, from then on those that read a
+// wire which has just become known.
 pub fn finish(
     sheet: &[u8],
     memory: &[u8],
@@ -84,24 +94,29 @@ pub fn finish(
         × (length (now types) ≤ length (now words)) ⌝ }
     ensures { λ r. ⌜ ((run : RunningReads (now (sheet .entry)) (now (memory .entry)) (inputWords (now (words .entry))) (now (types .entry))
         (now (places .entry)) (now (firsts .entry)) (now (reads .entry)))
-        → Holds (length (now (types .entry))) (inputWords (now (words .entry))) (r .known .bits) (now (words .exit))
-        (finished (run .running .given .sheet) (run .running .given .inputs) (run .running .given .memory))
-        × (r .rounds ≡ rounds (run .running .given .sheet) (run .running .given .inputs) (run .running .given .memory))) ⌝ }
+        → let given = run .running .given in
+        Holds (length (now (types .entry))) (inputWords (now (words .entry))) (r .known .bits) (now (words .exit))
+        (finished (given .sheet) (given .inputs) (given .memory))
+        × (r .rounds ≡ rounds (given .sheet) (given .inputs) (given .memory))
+        × (r .last ≡ lastUnknown (length (now (types .entry))) (finished (given .sheet) (given .inputs) (given .memory)))) ⌝ }
 {
+    let mut readers = [0u64; 64];
+    readers::gather(reads, types.len(), &mut readers);
     let mut known = Wires::none();
-    let mut passed = Wires::none();
+    let mut due = Wires::first(types.len());
     let mut rounds = 0;
     loop {
-        let grown = round(sheet, memory, types, places, firsts, known, passed, words);
+        let after = round(sheet, memory, types, places, firsts, known, due, words);
+        let grown = after.known;
         let made = rounds + 1;
         if grown.within(known) {
             return Finished {
                 known: grown,
                 rounds: made,
+                last: after.last,
             };
         }
-        let news = grown.minus(known);
-        passed = due::not_due(reads, grown, news, types.len());
+        due = readers::of_any(&readers, grown.minus(known));
         known = grown;
         rounds = made;
     }

@@ -2,18 +2,17 @@
 use Prim.Native.Nat.{ℕ, zero, suc, _+_, _-_, _*_, _/_, _%_, _^_, _≤_, _<_}
 use mathlib.Core.Path.{_≡_, refl, sym, ap, ap₂, _∙_}
 use mathlib.Core.Bool.{Bool, true, false, cond, not, _&&_, _||_, true≢false}
-use native.Mathlib.Nat.{mod-lt, mod-eq-of-lt, mod-one, div-one, div-eq-of-lt, mul-mod-left, mul-div-cancel}
-use native.Mathlib.Nat.{pow-suc, zero-lt-suc, lt-of-lt-of-le, one-mul}
+use native.Mathlib.Nat.{mod-lt, mod-eq-of-lt, mod-one, div-one, div-eq-of-lt, div-eq-of-lt-le, mul-mod-left, mul-div-cancel}
+use native.Mathlib.Nat.{pow-suc, zero-lt-suc, lt-of-lt-of-le, one-mul, sub-zero}
 use native.Mathlib.Numerals.{one-add}
 use native.Mathlib.Omega.{arith}
 use lib.Dec.{eqb, ltb, eqb·suc-suc, eqb·zero-suc, eqb·suc-zero, lit<}
-use lib.Bits.{bitOr, bitAnd, or-shifted, or-shr, or-mod, or-lt, and-shr, and-mod, and-lt, and-mask}
-use lib.Count.{ones, ones-cat, ones-ones, trailingZeros, under, trailing-le}
-use mir.Val.{boolByte}
-use lib.Pow.{pow-pos, pow-mono, pow-lt, shr-shr, mod-pow-add, field, mod-mod-pow}
+use lib.Bits.{bitOr, bitAnd, or-shr, or-mod, or-lt, and-shr, and-mod, and-mask}
+use lib.Count.{ones, ones-cat, ones-ones, leadingZeros, leading-length, trailingZeros, under, trailing-le}
+use lib.Pow.{pow-pos, pow-mono, pow-lt, shr-shr, mod-pow-add}
 use borrow.Author.Tests.{eqb-true, eq-eqb, ne-eqb, ltb-true, ltb-false, not-false, not-true}
 use Rattle.wires.specs.Laws.{none-in}
-use Rattle.wires.specs.Sets.{member, tally, Raised, LowestMissing, LowestPresent, TestsMeeting, TestsWithin}
+use Rattle.wires.specs.Sets.{member, tally, LowestMissing, LowestPresent, EndsAt, TestsWithin}
 
 -- one digit further up is one digit of the half
 half : (n k : ℕ) → n / 2 ^ suc k ≡ n / 2 / 2 ^ k
@@ -43,10 +42,12 @@ one-member (suc w) (suc k) =
     rw (half, pow-suc, mul-div-cancel (2 ^ w) {n = 2} (lit< tt), eqb·suc-suc) (one-member w k)
 
 -- the shift of the code, at 64 bits
+pub power-is : (n : ℕ) → n < 64 → 1 * 2 ^ n % 2 ^ 64 ≡ 2 ^ n
+power-is n h = rw (one-mul (2 ^ n), mod-eq-of-lt (pow-lt {i = n} {j = 64} h))
+
 pub with-is : (n w k : ℕ) → w < 64 → member (bitOr n (1 * 2 ^ w % 2 ^ 64)) k ≡ (member n k || eqb k w)
 with-is n w k h =
-    rw (one-mul (2 ^ w), mod-eq-of-lt (pow-lt {i = w} {j = 64} h))
-    (or-member n (2 ^ w) k ∙ ap (λ (b : Bool). member n k || b) (one-member w k))
+    rw (power-is w h) (or-member n (2 ^ w) k ∙ ap (λ (b : Bool). member n k || b) (one-member w k))
 
 pub has-is : (n k : ℕ) → eqb (bitAnd (n / 2 ^ k) 1) 1 ≡ member n k
 unfolding member
@@ -82,34 +83,6 @@ member-suc n k = rw half
 
 halves : (k n : ℕ) → n < 2 ^ suc k → n / 2 < 2 ^ k
 halves k n h = let l : n < 2 ^ k * 2 = rw pow-suc at h in omega arith
-
--- Every wire one up: twice the number, of which 64 digits are kept, and the new lowest digit.
-
-kept-digit : (i k n : ℕ) → member (n % 2 ^ (i + 1 + k)) k ≡ member n k
-unfolding member
-kept-digit i k n = ap (λ (x : ℕ). eqb (x % 2) 1) (field n (i + 1) k) ∙ ap (λ (x : ℕ). eqb x 1) (mod-mod-pow (n / 2 ^ k) i 1)
-
-digit-is : (lowest : Bool) → eqb (boolByte lowest) 1 ≡ lowest
-digit-is true = refl
-digit-is false = refl
-
-digit-small : (lowest : Bool) → boolByte lowest < 2 ^ 1
-digit-small true = omega arith
-digit-small false = omega arith
-
-pub raised-is : (n : ℕ) (lowest : Bool) → Raised n lowest (bitOr (n * 2 ^ 1 % 2 ^ 64) (boolByte lowest))
-raised-is n lowest =
-    let kept : n * 2 ^ 1 % 2 ^ 64 ≡ n % 2 ^ 63 * 2 ^ 1 = omega arith in
-    let small = digit-small lowest in
-    let low : (n % 2 ^ 63 * 2 ^ 1 + boolByte lowest) % 2 ≡ boolByte lowest = omega (arith, small) in
-    let high : (n % 2 ^ 63 * 2 ^ 1 + boolByte lowest) / 2 ≡ n % 2 ^ 63 = omega (arith, small) in
-    rw (kept, or-shifted (n % 2 ^ 63) 1 (boolByte lowest) small)
-    (record {
-      first = member-zero _ ∙ rw low (digit-is lowest);
-      above = λ k h.
-          let all : 62 - k + 1 + k ≡ 63 = omega arith in
-          member-suc _ k ∙ rw high (ap (λ (j : ℕ). member (n % 2 ^ j) k) (sym all) ∙ kept-digit (62 - k) k n);
-    })
 
 -- A set within another: joined to it, it adds nothing.
 
@@ -158,22 +131,6 @@ and-member a b k =
     ap (λ (x : ℕ). eqb (x % 2) 1) (and-shr a b k) ∙ ap (λ (x : ℕ). eqb x 1) (and-mod (a / 2 ^ k) (b / 2 ^ k) 1)
     ∙ digit-and (a / 2 ^ k % 2) (b / 2 ^ k % 2) (omega arith) (omega arith)
 
-both-false : (a b : Bool) → (a ≡ true → b ≡ false) → (a && b) ≡ false
-both-false true b h = h refl
-both-false false b h = refl
-
-pub meets-is : (n m : ℕ) → n < 2 ^ 64 → m < 2 ^ 64 → TestsMeeting n m (not (eqb (bitAnd n m) 0))
-meets-is n m hn hm =
-    record {
-      apart = λ e k i.
-          ap (λ b. b && member m k) (sym i) ∙ sym (and-member n m k)
-          ∙ ap (λ (x : ℕ). member x k) (eqb-true (bitAnd n m) 0 (not-false _ e)) ∙ none-in k;
-      only = λ h. ap not
-          (eq-eqb (bitAnd n m) 0
-          (same-members 64 (bitAnd n m) 0 (and-lt 64 n m hn hm) (omega arith)
-          (λ k. and-member n m k ∙ both-false (member n k) (member m k) (h k) ∙ sym (none-in k))));
-    }
-
 -- the complement of n at one digit more, its lowest digit and the rest
 turned-digits : (k n : ℕ) → n < 2 ^ suc k
     → ((2 ^ suc k - 1 - n) % 2 ≡ 1 - n % 2) × ((2 ^ suc k - 1 - n) / 2 ≡ 2 ^ k - 1 - n / 2)
@@ -196,6 +153,15 @@ beyond : (n j k : ℕ) → n < 2 ^ j → j ≤ k → member n k ≡ false
 unfolding member
 beyond n j k h l = rw (div-eq-of-lt (lt-of-lt-of-le h (pow-mono l)))
 
+-- The first n wires: all digits below place n.
+
+pub first-is : (n k : ℕ) → member (2 ^ n - 1) k ≡ ltb k n
+first-is n k = go (ltb k n) refl
+  where
+    go : (t : Bool) → ltb k n ≡ t → member (2 ^ n - 1) k ≡ t
+    go true e = sym (ap (λ (x : ℕ). member x k) (sub-zero (2 ^ n - 1))) ∙ not-member n 0 k (pow-pos n) (ltb-true k n e) ∙ ap not (none-in k)
+    go false e = beyond (2 ^ n - 1) n k (omega (arith, pow-pos n)) (ltb-false k n e)
+
 pub minus-is : (n m k : ℕ) → n < 2 ^ 64 → m < 2 ^ 64 → member (bitAnd n (2 ^ 64 - 1 - m)) k ≡ (member n k && not (member m k))
 minus-is n m k hn hm = and-member n (2 ^ 64 - 1 - m) k ∙ go (ltb k 64) refl
   where
@@ -205,9 +171,8 @@ minus-is n m k hn hm = and-member n (2 ^ 64 - 1 - m) k ∙ go (ltb k 64) refl
 
 pub without-is : (n w k : ℕ) → n < 2 ^ 64 → w < 64 → member (bitAnd n (2 ^ 64 - 1 - 1 * 2 ^ w % 2 ^ 64)) k ≡ (member n k && not (eqb k w))
 without-is n w k hn h =
-    let power = pow-lt {i = w} {j = 64} h in
-    rw (one-mul (2 ^ w), mod-eq-of-lt power)
-    (minus-is n (2 ^ w) k hn power ∙ ap (λ (b : Bool). member n k && not b) (one-member w k))
+    rw (power-is w h)
+    (minus-is n (2 ^ w) k hn (pow-lt {i = w} {j = 64} h) ∙ ap (λ (b : Bool). member n k && not b) (one-member w k))
 
 -- The lowest that is present, at k digits: as many zeros stand below the lowest one.
 
@@ -251,3 +216,19 @@ lowest-is n h =
   where
     low : LowestPresent (member (2 ^ 64 - 1 - n)) 64 (trailingZeros 64 (2 ^ 64 - 1 - n))
     low = lowest-present-is (2 ^ 64 - 1 - n) (omega arith)
+
+-- One more than the highest that is present is the number's length in digits.
+pub end-is : (n : ℕ) → n < 2 ^ 64 → EndsAt (member n) 64 (64 - leadingZeros 64 n)
+unfolding member
+end-is n h =
+    let (m, sum, below, least) = leading-length 64 n h in
+    let length-is : 64 - leadingZeros 64 n ≡ m = omega arith in
+    rw length-is
+    (record { within = omega arith; above = λ j l. beyond n m j below l; highest = λ j e. top j (rw e at below) (rw e at least) })
+  where
+    top : (j : ℕ) → n < 2 ^ suc j → 2 ^ suc j ≤ 2 * n + 1 → member n j ≡ true
+    top j below least =
+        let b : n < 2 ^ j * 2 = rw pow-suc at below in
+        let l : 2 ^ j * 2 ≤ 2 * n + 1 = rw pow-suc at least in
+        let one : n / 2 ^ j ≡ 1 = div-eq-of-lt-le (2 ^ j) (omega arith) (omega arith) in
+        rw one

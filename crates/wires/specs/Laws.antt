@@ -1,13 +1,14 @@
 -- Laws of counting and of the lowest number that a set has or misses, for any set: what callers need to know of the definitions.
 use Prim.Native.Nat.{ℕ, zero, suc, _+_, _-_, _^_, _≤_, _<_}
 use mathlib.Core.Path.{_≡_, refl, sym, ap, _∙_}
-use mathlib.Core.Bool.{Bool, true, false, cond, not, _&&_, _||_, or-true, and-false, true≢false}
-use native.Mathlib.Nat.{suc-add, zero-add, zero-div, le-antisymm, lt-of-not-le}
+use mathlib.Core.Logic.{_≢_}
+use mathlib.Core.Bool.{Bool, true, false, cond, not, _&&_, _||_, or-false, and-true, and-false, true≢false}
+use native.Mathlib.Nat.{suc-add, zero-add, zero-div, lt-of-not-le}
 use native.Mathlib.Omega.{arith}
 use lib.Dec.{eqb}
 use borrow.Author.Count.{below-more}
-use borrow.Author.Tests.{eq-eqb}
-use Rattle.wires.specs.Sets.{member, tally, LowestMissing, LowestPresent}
+use borrow.Author.Tests.{eq-eqb, ne-eqb, eqb-true, eqb-false}
+use Rattle.wires.specs.Sets.{member, tally, LowestPresent, EndsAt}
 
 -- no bit of 0 is 1
 pub none-in : (k : ℕ) → member 0 k ≡ false
@@ -80,26 +81,6 @@ tally-full f n e = tally-equal f (λ _. true) n (λ _ _ _. refl) (e ∙ sym (all
 pub tally-bound : (f : ℕ → Bool) (n : ℕ) → tally f n ≤ n
 tally-bound f n = rw (all-full (λ _. true) n (λ _ _. refl)) at (tally-grows f (λ _. true) n (λ _ _ _. refl))
 
--- a set has one lowest missing number
-pub lowest-missing-unique : (f : ℕ → Bool) (k r s : ℕ) → LowestMissing f k r → LowestMissing f k s → r ≡ s
-lowest-missing-unique f k r s p q = le-antisymm (at-most p q) (at-most q p)
-  where
-    at-most : {r s : ℕ} → LowestMissing f k r → LowestMissing f k s → r ≤ s
-    at-most {r} {s} p q =
-        let h : r < suc s = lt-of-not-le (λ (l : s < r). true≢false (sym (p .below s l) ∙ q .missing (omega arith))) in
-        omega arith
-
--- with the lowest missing number added, the lowest missing one is higher
-pub lowest-missing-rises : (f g : ℕ → Bool) (k r s : ℕ) → LowestMissing f k r → r < k → ((j : ℕ) → g j ≡ (f j || eqb j r))
-    → LowestMissing g k s → r < s
-lowest-missing-rises f g k r s p l added q =
-    lt-of-not-le (λ (m : s ≤ r). true≢false (sym (within s m) ∙ q .missing (omega arith)))
-  where
-    within : (j : ℕ) → j ≤ r → g j ≡ true
-    within j m =
-        let here : (f r || eqb r r) ≡ true = rw (eq-eqb r r refl) (or-true (f r)) in
-        added j ∙ below-more (λ i. (f i || eqb i r) ≡ true) r (λ i n. rw (p .below i n)) here j (omega arith)
-
 -- with the lowest number taken out, the lowest one is higher
 pub lowest-present-rises : (f g : ℕ → Bool) (k r s : ℕ) → LowestPresent f k r → r < k → ((j : ℕ) → g j ≡ (f j && not (eqb j r)))
     → LowestPresent g k s → r < s
@@ -110,3 +91,41 @@ lowest-present-rises f g k r s p l taken q =
     gone j m =
         let here : (f r && not (eqb r r)) ≡ false = rw (eq-eqb r r refl) (and-false (f r)) in
         taken j ∙ below-more (λ i. (f i && not (eqb i r)) ≡ false) r (λ i n. rw (p .below i n)) here j (omega arith)
+
+-- what holds at w, and at x where x is another
+pub at-or-else : (P : ℕ → Type 0) (w x : ℕ) → P w → (x ≢ w → P x) → P x
+at-or-else P w x here there = go (eqb x w) refl
+  where
+    go : (t : Bool) → eqb x w ≡ t → P x
+    go true e = rw (eqb-true x w e) here
+    go false e = there (eqb-false x w e)
+
+-- with a number added, the set is the same at every other one
+pub added-other : (f g : ℕ → Bool) (w : ℕ) → ((j : ℕ) → g j ≡ (f j || eqb j w)) → (x : ℕ) → x ≢ w → g x ≡ f x
+added-other f g w added x other = added x ∙ rw (ne-eqb x w other) (or-false (f x))
+
+-- With a number taken out.
+module _ (f g : ℕ → Bool) (w : ℕ) (taken : (j : ℕ) → g j ≡ (f j && not (eqb j w))) where
+  -- the set is the same at every other one
+  pub taken-other : (x : ℕ) → x ≢ w → g x ≡ f x
+  taken-other x other = taken x ∙ rw (ne-eqb x w other) (and-true (f x))
+
+  -- what is in it was in it before, and is another
+  pub left-other : (x : ℕ) → g x ≡ true → (f x ≡ true) × (x ≢ w)
+  left-other x e = go (eqb x w) refl
+    where
+      go : (t : Bool) → eqb x w ≡ t → (f x ≡ true) × (x ≢ w)
+      go true same = absurd (true≢false (sym e ∙ taken x ∙ rw same (and-false (f x))))
+      go false other = let apart = eqb-false x w other in (sym (taken-other x apart) ∙ e, apart)
+
+  -- where it was the highest, the end is lower
+  pub end-falls : (k r s : ℕ) → EndsAt f k r → r ≡ suc w → EndsAt g k s → s < r
+  end-falls k r s p top q = go s refl
+    where
+      go : (i : ℕ) → s ≡ i → s < r
+      go zero e = omega arith
+      go (suc j) e =
+          let (present, other) = left-other j (q .highest j e) in
+          let low : j < r = lt-of-not-le (λ (l : r ≤ j). true≢false (sym present ∙ p .above j l)) in
+          let lower : j < w = lt-of-not-le (λ (l : w ≤ j). other (omega arith)) in
+          omega arith

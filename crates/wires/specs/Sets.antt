@@ -8,24 +8,10 @@ use lib.Dec.{eqb}
 unfoldable pub member : ℕ → ℕ → Bool
 member n k = eqb (n / 2 ^ k % 2) 1
 
--- the set whose bits are m is the one whose bits are n with every wire moved one up, as far as 64 wires go, and wire 0 as told
-pub record Raised (n : ℕ) (lowest : Bool) (m : ℕ) : Type 0 where
-  pub first : member m 0 ≡ lowest
-  pub above : (k : ℕ) → k < 63 → member m (suc k) ≡ member n k
-
 -- r says whether every wire of the set whose bits are n is in the one whose bits are m
 pub record TestsWithin (n m : ℕ) (r : Bool) : Type 0 where
   pub all : r ≡ true → (k : ℕ) → member n k ≡ true → member m k ≡ true
   pub only : ((k : ℕ) → member n k ≡ true → member m k ≡ true) → r ≡ true
-
--- no wire of the set whose bits are n is in the one whose bits are m
-abbrev pub Apart : ℕ → ℕ → Type 0
-Apart n m = (k : ℕ) → member n k ≡ true → member m k ≡ false
-
--- r says whether some wire is in both sets
-pub record TestsMeeting (n m : ℕ) (r : Bool) : Type 0 where
-  pub apart : r ≡ false → Apart n m
-  pub only : Apart n m → r ≡ false
 
 -- how many numbers below k pass a test
 unfoldable pub tally : (ℕ → Bool) → ℕ → ℕ
@@ -38,6 +24,12 @@ pub record LowestPresent (f : ℕ → Bool) (k r : ℕ) : Type 0 where
   pub below : (j : ℕ) → j < r → f j ≡ false
   pub present : r < k → f r ≡ true
   pub empty : k ≤ r → (j : ℕ) → f j ≡ false
+
+-- r is one more than the highest number in the set, whose numbers are below k, or 0 where the set is empty
+pub record EndsAt (f : ℕ → Bool) (k r : ℕ) : Type 0 where
+  pub within : r ≤ k
+  pub above : (j : ℕ) → r ≤ j → f j ≡ false
+  pub highest : (j : ℕ) → r ≡ suc j → f j ≡ true
 
 -- r is the lowest number below k that is not in the set, or k where all are
 pub record LowestMissing (f : ℕ → Bool) (k r : ℕ) : Type 0 where

@@ -1,9 +1,9 @@
 // A set of wires, such as the known ones, held as 64 bits by value: wire k is in the set where bit k is 1.
 ghost use mathlib.Core.Path.{_≡_};
-ghost use Prim.Native.Nat.{ℕ, _<_};
+ghost use Prim.Native.Nat.{ℕ, _≤_, _<_};
 ghost use mathlib.Core.Bool.{_&&_, _||_, not, false};
-ghost use lib.Dec.{eqb};
-ghost use Rattle.wires.specs.Sets.{member, tally, Raised, LowestMissing, LowestPresent, TestsMeeting, TestsWithin};
+ghost use lib.Dec.{eqb, ltb};
+ghost use Rattle.wires.specs.Sets.{member, tally, LowestMissing, LowestPresent, EndsAt, TestsWithin};
 
 // A set of wires, each below 64.
 pub struct Wires {
@@ -16,6 +16,19 @@ impl Wires {
         ensures { λ r. ⌜ ((k : ℕ) → member (r .bits) k ≡ false) ⌝ }
     {
         Wires { bits: 0 }
+    }
+
+    // The set of the first `count` wires.
+    pub fn first(count: usize) -> Wires
+        requires { ⌜ count ≤ 64 ⌝ }
+        ensures { λ r. ⌜ ((k : ℕ) → member (r .bits) k ≡ ltb k count) ⌝ }
+    {
+        if count == 64 {
+            return Wires { bits: !0 };
+        }
+        Wires {
+            bits: (1 << count) - 1,
+        }
     }
 
     // Whether `wire` is in the set.
@@ -36,15 +49,6 @@ impl Wires {
         }
     }
 
-    // The set with every wire moved one up, the 64th out of it, and wire 0 in it where `lowest` says so.
-    pub fn raised(self, lowest: bool) -> Wires
-        ensures { λ r. ⌜ Raised (self .bits) lowest (r .bits) ⌝ }
-    {
-        Wires {
-            bits: (self.bits << 1) | (lowest as u64),
-        }
-    }
-
     // The set with the wires of `other` added.
     pub fn joined(self, other: Wires) -> Wires
         ensures { λ r. ⌜ ((k : ℕ) → member (r .bits) k ≡ (member (self .bits) k || member (other .bits) k)) ⌝ }
@@ -59,13 +63,6 @@ impl Wires {
         ensures { λ r. ⌜ TestsWithin (self .bits) (other .bits) r ⌝ }
     {
         self.bits | other.bits == other.bits
-    }
-
-    // Whether some wire is both in the set and in `other`.
-    pub fn meets(self, other: Wires) -> bool
-        ensures { λ r. ⌜ TestsMeeting (self .bits) (other .bits) r ⌝ }
-    {
-        self.bits & other.bits != 0
     }
 
     // The set without the wires of `other`.
@@ -99,6 +96,13 @@ impl Wires {
         ensures { λ r. ⌜ LowestPresent (member (self .bits)) 64 r ⌝ }
     {
         u64::trailing_zeros(self.bits)
+    }
+
+    // One more than the highest wire of the set, or 0 where it is empty.
+    pub fn end(self) -> u32
+        ensures { λ r. ⌜ EndsAt (member (self .bits)) 64 r ⌝ }
+    {
+        64 - u64::leading_zeros(self.bits)
     }
 
     // The lowest wire that is not in the set, or 64 where all are.

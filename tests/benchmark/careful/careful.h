@@ -22,6 +22,17 @@ uint32_t careful_scheduled(const uint8_t *sheet, size_t sheet_length, uint8_t *m
 
 uint32_t careful_schedule(const uint8_t *sheet, size_t sheet_length, uint8_t *list, size_t list_length);
 
+/* How often the rounds of an instant work a wire out, how many wires were unknown before each round, and how many there are, added up over
+ * the rounds. All 0 for what 1 to 16 refuse. */
+struct visits {
+    unsigned made;
+    unsigned unknown;
+    unsigned all;
+};
+
+struct visits careful_visits(const uint8_t *sheet, size_t sheet_length, const uint8_t *memory, size_t memory_length, const uint8_t *input,
+                             size_t input_length, size_t output_length);
+
 static const struct implementation careful = {careful_check,  careful_start,     careful_preview,
                                               careful_rounds, careful_scheduled, careful_schedule};
 

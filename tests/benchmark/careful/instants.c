@@ -1,10 +1,8 @@
-/* The calls of careful C but the maker: the checks of memory, rows and schedule, the rounds and the pass. A round works out only those
- * unknown wires that read a wire which the round before made known. Rests on reading.c, values.c and storing.c.
+/* The calls of careful C but the maker: the checks of memory, rows and schedule, and the instants. Rests on reading.c, values.c,
+ * rounds.c and storing.c.
  */
 #include "benchmark/careful/careful.h"
 #include "benchmark/careful/internal.h"
-
-#include <string.h>
 
 /* ---- Memory, rows and schedule ---- */
 
@@ -54,9 +52,8 @@ static uint32_t check_schedule(const struct program *program, const uint8_t *sch
 
 /* ---- The instants ---- */
 
-/* Checks 1 to 16, and what the instant has at hand. */
-static uint32_t prepare(struct program *program, struct instant *instant, const uint8_t *sheet, size_t sheet_length,
-                        const uint8_t *memory, size_t memory_length, const uint8_t *input, size_t input_length, size_t output_length)
+uint32_t prepare(struct program *program, struct instant *instant, const uint8_t *sheet, size_t sheet_length, const uint8_t *memory,
+                 size_t memory_length, const uint8_t *input, size_t input_length, size_t output_length)
 {
     uint32_t refused = read_program(program, sheet, sheet_length);
     if (refused == 0)
@@ -84,25 +81,6 @@ static void finish(struct instant *instant, uint8_t *next_memory, uint8_t *outpu
         write_number(output + bytes_of_number * index, instant->wires[program->output_wires[index]]);
 }
 
-/* One round. A wire is worked out where it is unknown and reads a wire that the round before made known: else it is what it was. The
- * wires made known are marked as such by the caller, behind the round. */
-static uint64_t work_out_round(struct instant *instant, uint64_t waiting, uint64_t made_known, bool first_round)
-{
-    const struct program *const program = instant->program;
-    uint64_t grown = 0;
-    for (uint64_t left = waiting; left != 0; left &= left - 1) {
-        const unsigned wire = (unsigned)__builtin_ctzll(left);
-        if (!first_round && (program->wire_reads[wire] & made_known) == 0)
-            continue;
-        const uint64_t value = value_of(instant, program->wire_node[wire], false);
-        if ((value & KNOWN) != 0) {
-            instant->wires[wire] = (uint32_t)value;
-            grown |= UINT64_C(1) << wire;
-        }
-    }
-    return grown;
-}
-
 /* The instant in rounds: until one changes nothing. Where there is no next memory, nothing is stored. */
 static uint32_t in_rounds(const uint8_t *sheet, size_t sheet_length, const uint8_t *memory, size_t memory_length, const uint8_t *input,
                           size_t input_length, uint8_t *output, size_t output_length, uint8_t *next_memory)
@@ -113,20 +91,14 @@ static uint32_t in_rounds(const uint8_t *sheet, size_t sheet_length, const uint8
         prepare(&program, &instant, sheet, sheet_length, memory, memory_length, input, input_length, output_length);
     if (refused != 0)
         return refused;
-    uint64_t waiting = UINT64_MAX >> (most_wires - program.wires);
-    uint64_t made_known = 0;
-    uint32_t rounds = 0;
-    memset(instant.wires, 0, sizeof instant.wires);
-    do {
-        made_known = work_out_round(&instant, waiting, made_known, rounds == 0);
-        instant.known |= made_known;
-        waiting &= ~made_known;
-        rounds++;
-    } while (made_known != 0);
-    if (waiting != 0)
-        return refusal(20, (unsigned)__builtin_ctzll(waiting));
+    struct rounds rounds;
+    begin_rounds(&instant, &rounds);
+    while (make_round(&instant, &rounds))
+        continue;
+    if (rounds.unknown != 0)
+        return refusal(20, (unsigned)__builtin_ctzll(rounds.unknown));
     finish(&instant, next_memory, output);
-    return rounds;
+    return rounds.made;
 }
 
 uint32_t careful_check(const uint8_t *sheet, size_t sheet_length)

@@ -143,6 +143,28 @@ static inline const struct node *third_of(const struct node *node)
     return node + node->is.link[1];
 }
 
+/* ---- instants.c ---- */
+
+/* Checks 1 to 16, and what the instant has at hand. */
+uint32_t prepare(struct program *program, struct instant *instant, const uint8_t *sheet, size_t sheet_length, const uint8_t *memory,
+                 size_t memory_length, const uint8_t *input, size_t input_length, size_t output_length);
+
+/* ---- rounds.c ---- */
+
+/* Where the rounds of an instant are. */
+struct rounds {
+    uint64_t unknown;
+    uint64_t due; /* in the next round */
+    uint32_t made;
+    uint64_t readers[most_wires]; /* of each wire, one bit for each */
+};
+
+/* Before the first round every wire is unknown. */
+void begin_rounds(struct instant *instant, struct rounds *rounds);
+
+/* Makes a round, and says whether it made a wire known. */
+bool make_round(struct instant *instant, struct rounds *rounds);
+
 /* ---- storing.c ---- */
 
 /* Starts the cells from the first one to before the end. */

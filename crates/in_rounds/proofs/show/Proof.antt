@@ -83,12 +83,12 @@ returns-2 c =
     let solved = c .before .before .before .before in
     let parts = parts-of (told solved) in
     let g = parts .granted in
-    let (h, made) = solved .finish .ensures (grantedReads g) in
+    let (h, made, named) = solved .finish .ensures (grantedReads g) in
     let counted = c .before .before .count .ensures in
     ⊎-elim
-    (λ w. finished-shown g h (c .answered .ensures) (w .0 .taken) (sym counted ∙ eqb-true _ _ (w .0 .taken)) made (parts .types)
+    (λ w. finished-shown _ _ _ _ _ g h (c .answered .ensures) (w .0 .taken) (sym counted ∙ eqb-true _ _ (w .0 .taken)) made (parts .types)
     (w .7 ∙ w .4 .ensures))
-    (λ w. unknown-shown g h (c .answered .ensures) (w .0 .left) (λ e. eqb-false _ _ (w .0 .left) (counted ∙ e)) (w .1))
+    (λ w. unknown-shown _ _ _ _ _ g h (c .answered .ensures) (w .0 .left) (λ e. eqb-false _ _ (w .0 .left) (counted ∙ e)) named (w .1))
     (c .before .if1 .came)
 
 pub show-spec : {M : Type 1} → statement M

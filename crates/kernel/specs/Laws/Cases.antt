@@ -36,7 +36,7 @@ use Rattle.sheet.specs.Laws.Lists.{never}
 use Rattle.kernel.specs.Laws.Given.{given-by}
 use Rattle.kernel.specs.Laws.Schedules.{Passed, schedule-passed, pass-full-of, pass-finished}
 use Rattle.kernel.specs.declared.Value.{Value}
-use Rattle.kernel.specs.declared.Value.the-variants.{Unknown}
+use Rattle.kernel.specs.declared.Value.the-variants.{Unknown, Known}
 use Rattle.kernel.specs.declared.Scheduled.{Scheduled}
 use Rattle.kernel.specs.declared.Scheduled.the-variants.{Refused}
 
@@ -124,3 +124,21 @@ crossed-refused memory row output list = go (givenOf (crossedSheet 13) memory ro
     go (result given) e =
         along given (same-result (sym (given-by (crossedSheet 13) memory row output given e .sheet) ∙ crossed-read))
         (scheduleOf (given .sheet) list) refl
+
+-- K4's round over false values: wire 0 is wire 1, wire 1 is 5 and wire 2 is wire 2; wire 0 is given as 7, and comes back as 7. The walk
+-- from wire 2 down meets wires 2 and 1 as unknown, wire 1 last.
+abbrev copied : Sheet
+copied = record {
+  inputTypes = [];
+  wireTypes = number ∷ number ∷ number ∷ [];
+  outputs = 0 ∷ [];
+  expressions = wire 1 ∷ constant (Number (pos 5)) ∷ wire 2 ∷ [];
+}
+
+abbrev falsely : List Value
+falsely = Known (Number (pos 7)) ∷ Unknown ∷ Unknown ∷ []
+
+pub false-kept : (System.roundOver (round copied [] []) falsely ≡ Known (Number (pos 7)) ∷ Known (Number (pos 5)) ∷ Unknown ∷ [])
+    × (System.lastUnknown 3 falsely ≡ 1)
+unfolding System.roundOver System.renewed System.lastMet round values value cellCount
+false-kept = (refl, refl)

@@ -20,6 +20,7 @@ use Rattle.kernel.specs.Instants.{wireCount, round, rounds, finished, ne
 use Rattle.kernel.specs.Schedules.{IsSchedule, pass}
 use Rattle.kernel.specs.Calls.{Given, givenOf, placeOfUnknown, Accepted, acceptedOf, inRounds, scheduled, roundsCall, scheduledCall}
 use Rattle.sheet.specs.Laws.Lists.{never}
+use Rattle.kernel.specs.Laws.Order.{known-not}
 use Rattle.kernel.specs.Laws.Given.{given-same}
 use Rattle.kernel.specs.Laws.Solutions.{finished-solution, finished-least, only-solution, rounds-bound}
 use Rattle.kernel.specs.Laws.Schedules.{schedule-passes, passes-schedule, pass-full-of, pass-finished}
@@ -27,9 +28,6 @@ use Rattle.kernel.specs.declared.Value.{Value}
 use Rattle.kernel.specs.declared.Value.the-variants.{Unknown, Known}
 use Rattle.kernel.specs.declared.InRounds.the-variants.{Accepted as AcceptedInRounds}
 use Rattle.kernel.specs.declared.Scheduled.the-variants.{Accepted as AcceptedScheduled}
-
-known-not : {v : Value} → IsKnown v → isUnknown v ≡ false
-known-not known = refl
 
 unknown-is : (v : Value) → isUnknown v ≡ true → v ≡ Unknown
 unknown-is Unknown e = refl

@@ -1,10 +1,11 @@
 -- The order on values and on lists of values: unknown is least, and a known value has nothing above it but itself.
 use mathlib.Core.Path.{_≡_, refl, subst}
 use Prim.Native.Nat.{ℕ, zero, suc}
+use mathlib.Core.Bool.{false}
 use mathlib.Core.List.{List}
 use lib.ListN.{length}
 use lib.Seq.{ext-getD}
-use Rattle.kernel.specs.Values.{IsKnown, known, whenKnown}
+use Rattle.kernel.specs.Values.{isUnknown, IsKnown, known, whenKnown}
 use Rattle.kernel.specs.Order.{_⊑_, unknown, same, _⊑*_, valueAt, allUnknown}
 use Rattle.kernel.specs.Systems.{Full}
 use Rattle.sheet.specs.declared.Datum.{Datum}
@@ -22,6 +23,9 @@ pub ⊑-antisym : {u v : Value} → u ⊑ v → v ⊑ u → u ≡ v
 
 pub ⊑-of-≡ : {u v : Value} → u ≡ v → u ⊑ v
 ⊑-of-≡ {u} e = subst (λ (x : Value). u ⊑ x) e same
+
+pub known-not : {v : Value} → IsKnown v → isUnknown v ≡ false
+known-not known = refl
 
 pub known-same : {u v : Value} → IsKnown u → u ⊑ v → u ≡ v
 known-same known same = refl

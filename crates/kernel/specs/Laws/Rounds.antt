@@ -9,12 +9,11 @@ use lib.ListN.{length, length-replicate}
 use borrow.Author.Tests.{ltb-true, ltb-false}
 use lib.Dec.{ltb}
 use Rattle.sheet.specs.Outcomes.{lowest}
-use Rattle.kernel.specs.Values.{IsKnown}
-use Rattle.kernel.specs.Order.{_⊑*_, valueAt, knownCount}
+use Rattle.kernel.specs.Order.{_⊑*_, knownCount}
 use Rattle.kernel.specs.Equality.{sameValues}
-use Rattle.kernel.specs.Systems.{Full, Monotone, Solution, after, unchanged, rounds, finished}
+use Rattle.kernel.specs.Systems.{Full, Monotone, Solution, LeastSolution, after, unchanged, rounds, finished}
 use Rattle.sheet.specs.Laws.Lists.{never}
-use Rattle.kernel.specs.Laws.Order.{known-same, ⊑*-antisym, allUnknown-below, full-same}
+use Rattle.kernel.specs.Laws.Order.{⊑*-antisym, allUnknown-below, full-same}
 use Rattle.kernel.specs.Laws.Equality.{values-true, values-refl}
 use Rattle.kernel.specs.Laws.Counting.{more-known, count-bound}
 use Rattle.sheet.specs.Laws.Lowest.{lowest-bound, lowest-passes, lowest-first}
@@ -27,11 +26,6 @@ pub record FirstUnchanged (n : ℕ) (next : List Value → List Value) (r : ℕ)
   pub counted : r ≡ suc before
   pub unchanged : after n next before ≡ after n next r
   pub changed : (k : ℕ) → k < before → after n next k ≡ after n next (suc k) → ⊥
-
--- what is below its own round keeps its known wires under a round
-pub keeps-known : (next : List Value → List Value) (xs : List Value) → xs ⊑* next xs
-    → (w : ℕ) → IsKnown (valueAt xs w) → valueAt xs w ≡ valueAt (next xs) w
-keeps-known next xs h w k = known-same k (h .at w)
 
 module _ (n : ℕ) (next : List Value → List Value) (system : Monotone n next) where
   open Monotone system using (sized, grows)
@@ -128,6 +122,14 @@ module _ (n : ℕ) (next : List Value → List Value) (system : Monotone n next)
   pub finished-length : length (finished n next) ≡ n
   unfolding finished
   finished-length = after-length (rounds n next)
+
+  -- and there is no other
+  pub least-same : {s : List Value} → LeastSolution next s → s ≡ finished n next
+  unfolding Solution
+  least-same {s} h =
+      let l : length s ≡ n = rw (h .solves) at (sized s) in
+      ⊑*-antisym s (finished n next) (rw (l, finished-length)) (h .least (finished n next) finished-solution)
+      (finished-least s (h .solves))
 
   -- n rounds are enough
   pub after-enough : (k : ℕ) → n ≤ k → after n next k ≡ finished n next

@@ -54,7 +54,7 @@ enum {
     NUTHATCHBED_SCHEDULE_LENGTH = 17, /* length is not the count of wires; place: 0 */
     NUTHATCHBED_SCHEDULE_ENTRY = 18,  /* an entry that is no wire, or named before; place: its position */
     NUTHATCHBED_SCHEDULE_ORDER = 19,  /* a wire that reads itself or a wire not earlier in the list; place: its position */
-    NUTHATCHBED_STAYS_UNKNOWN = 20    /* a wire stays unknown; place: the lowest such wire */
+    NUTHATCHBED_STAYS_UNKNOWN = 20    /* a wire stays unknown; place: the lowest wire that waits for itself */
 };
 
 /* The refusal's number in an answer, 0 where the call was not refused; and the refusal's place. */

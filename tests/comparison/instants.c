@@ -1,18 +1,26 @@
 /* The step of a case that goes from instant to instant: the start, then preview, rounds and schedule from the same memory, row and list,
- * which must agree as K3 and demand 3 say. Rests on the harness and on the generator's rows.
+ * which must agree as K3 and demand 3 say. Rests on the harness, on the generator's rows and on what the evaluator says of a refusal 20.
  */
 #include "comparison/case.h"
 
+#include "evaluator/evaluator.h"
 #include "generator/rows.h"
 #include "generator/spoiling.h"
 
 enum { refused_as_unknown = 20 };
 
-static void count_unknown(unsigned long *count, uint32_t place)
+static void count_loop(unsigned long *count, const struct buffers *given, uint32_t place)
 {
-    count[counter_unknown_above_lowest] += place > 0;
-    if (place > count[counter_highest_unknown])
-        count[counter_highest_unknown] = place;
+    const struct buffer *const sheet = &given->of[role_sheet];
+    const struct stuck stuck =
+        evaluator_stuck(sheet->bytes, sheet->length, given->of[role_memory].bytes, given->of[role_input].bytes);
+    count[counter_loops_above_wire_0] += place > 0;
+    if (place > count[counter_highest_loop])
+        count[counter_highest_loop] = place;
+    count[counter_loops_above_unknown] += place > stuck.lowest_unknown;
+    count[counter_loops_not_by_reads] += place != stuck.by_reads;
+    count[counter_waiting_directly] += stuck.waits_directly;
+    count[counter_waiting_through_others] += !stuck.waits_directly;
 }
 
 static uint32_t compare_rounds(struct harness *harness, struct workspace *workspace)
@@ -22,7 +30,7 @@ static uint32_t compare_rounds(struct harness *harness, struct workspace *worksp
     unsigned long *const count = harness->statistics.count;
     const uint32_t rounds = compare_call(harness, call_rounds, given, &workspace->by_rounds);
     if (rounds / first_refusal == refused_as_unknown)
-        count_unknown(count, rounds % first_refusal);
+        count_loop(count, given, rounds % first_refusal);
     if (rounds >= first_refusal)
         return rounds;
     if (rounds == 0 || rounds > subject->wires + 1)

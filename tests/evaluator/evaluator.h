@@ -8,6 +8,7 @@
 #ifndef EVALUATOR_H
 #define EVALUATOR_H
 
+#include <stdbool.h>
 #include <stddef.h>
 #include <stdint.h>
 
@@ -32,5 +33,15 @@ uint32_t evaluator_scheduled(const uint8_t *sheet, size_t sheet_length, uint8_t 
 
 /* Refusals 1 to 11, 17 and 21. Success answers 0 and fills the list. */
 uint32_t evaluator_schedule(const uint8_t *sheet, size_t sheet_length, uint8_t *list, size_t list_length);
+
+/* What else is to be said of an instant in rounds that is refused 20: the lowest unknown wire, the lowest unknown wire that reaches itself
+ * by reads through unknown wires, and whether the wire that is named waits for itself directly. */
+struct stuck {
+    unsigned lowest_unknown;
+    unsigned by_reads;
+    bool waits_directly;
+};
+
+struct stuck evaluator_stuck(const uint8_t *sheet, size_t sheet_length, const uint8_t *memory, const uint8_t *input);
 
 #endif

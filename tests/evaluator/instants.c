@@ -1,5 +1,6 @@
 /* The evaluator's calls but the maker: the checks of memory, rows and schedule, the rounds, the one pass along a schedule, and what they
- * write. Rests on reading.c for the sheet, on values.c for the wires and on storing.c for the next memory.
+ * write. Rests on reading.c for the sheet, on values.c for the wires, on waiting.c for those that loop and on storing.c for the next
+ * memory.
  */
 #include "evaluator/internal.h"
 
@@ -99,16 +100,40 @@ static bool work_out_round(struct instant *instant, const struct value *previous
     return changed;
 }
 
-/* Writes next memory and outputs from the finished wires. With a wire unknown nothing is written
- * and refusal 20 is the answer. */
-static uint32_t finish_instant(struct instant *instant, const struct value *finished, uint8_t *output)
+/* The rounds until one changes nothing; answers how many they are. The instant's wires are then the finished ones, one of the two rows. */
+static uint32_t work_out_rounds(struct instant *instant, struct value values[2][most_wires])
+{
+    uint32_t rounds = 0;
+    bool changed = true;
+    make_unknown(values[0], instant->layout->wires);
+    while (changed) {
+        changed = work_out_round(instant, values[rounds % 2], values[(rounds + 1) % 2]);
+        rounds++;
+    }
+    instant->wires = values[rounds % 2];
+    return rounds;
+}
+
+/* The count of the wires where all are known. */
+static unsigned lowest_unknown(const struct instant *instant)
+{
+    unsigned wire = 0;
+    while (wire < instant->layout->wires && instant->wires[wire].known)
+        wire++;
+    return wire;
+}
+
+/* Writes next memory and outputs from the finished wires, which are the instant's. With a wire unknown nothing is written and refusal 20 is
+ * the answer, at the lowest wire that waits for itself. */
+static uint32_t finish_instant(struct instant *instant, uint8_t *output)
 {
     const struct layout *const layout = instant->layout;
-    for (unsigned wire = 0; wire < layout->wires; wire++) {
-        if (!finished[wire].known)
-            return refusal(20, wire);
+    const struct value *const finished = instant->wires;
+    if (lowest_unknown(instant) < layout->wires) {
+        uint64_t waits[most_wires];
+        find_waits(instant, waits);
+        return refusal(20, lowest_on_loop(waits, layout->wires));
     }
-    instant->wires = finished;
     store_cells(instant);
     for (unsigned index = 0; index < layout->outputs; index++)
         write_number(output + bytes_of_number * index, finished[layout->output_wires[index]].number);
@@ -149,15 +174,29 @@ uint32_t evaluator_rounds(const uint8_t *sheet, size_t sheet_length, uint8_t *me
 
     struct value values[2][most_wires];
     struct instant instant = {.layout = &layout, .input = input, .memory = memory};
-    make_unknown(values[0], layout.wires);
-    uint32_t rounds = 0;
-    bool changed = true;
-    while (changed) {
-        changed = work_out_round(&instant, values[rounds % 2], values[(rounds + 1) % 2]);
-        rounds++;
-    }
-    refused = finish_instant(&instant, values[rounds % 2], output);
+    const uint32_t rounds = work_out_rounds(&instant, values);
+    refused = finish_instant(&instant, output);
     return refused != 0 ? refused : rounds;
+}
+
+struct stuck evaluator_stuck(const uint8_t *sheet, size_t sheet_length, const uint8_t *memory, const uint8_t *input)
+{
+    struct layout layout;
+    (void)read_sheet(&layout, sheet, sheet_length);
+    struct value values[2][most_wires];
+    uint8_t copy[bytes_of_cell * most_cells];
+    memcpy(copy, memory, (size_t)bytes_of_cell * layout.cells);
+    struct instant instant = {.layout = &layout, .input = input, .memory = copy};
+    uint64_t waits[most_wires];
+    uint64_t reads[most_wires];
+    (void)work_out_rounds(&instant, values);
+    find_waits(&instant, waits);
+    for (unsigned wire = 0; wire < layout.wires; wire++)
+        reads[wire] = instant.wires[wire].known ? 0 : layout.wire_reads[wire];
+    const unsigned wire = lowest_on_loop(waits, layout.wires);
+    return (struct stuck){.lowest_unknown = lowest_unknown(&instant),
+                          .by_reads = lowest_on_loop(reads, layout.wires),
+                          .waits_directly = (waits[wire] >> wire & 1) != 0};
 }
 
 /* The instant on a copy of the memory. One longer than any sheet has cells for is refused by its length alone. */
@@ -189,5 +228,5 @@ uint32_t evaluator_scheduled(const uint8_t *sheet, size_t sheet_length, uint8_t 
         const unsigned wire = schedule[position];
         values[wire] = value_of_wire(&instant, wire);
     }
-    return finish_instant(&instant, values, output);
+    return finish_instant(&instant, output);
 }

@@ -92,6 +92,16 @@ void pass_over(struct instant *instant);
 /* Works out the expression that comes next and moves behind it. */
 struct value value_of(struct instant *instant, bool fresh);
 
+/* ---- loops.c ---- */
+
+/* The lowest wire that leads to itself in one or more steps, where each leads to the wires of its set; the count of wires where none does. */
+unsigned lowest_on_loop(const uint64_t *sets, unsigned wires);
+
+/* ---- waiting.c ---- */
+
+/* For each wire the unknown wires that it waits for, under the instant's wires, one bit each; a known one waits for none. */
+void find_waits(struct instant *instant, uint64_t *waits);
+
 /* ---- storing.c ---- */
 
 void start_cell(const struct layout *layout, unsigned cell, uint8_t *memory);

@@ -1,33 +1,14 @@
 /* The evaluator's maker of schedules: whether a list exists is told from what the wires reach, and the list is then put together position
- * by position. Rests on reading.c for the sheet and its reads.
+ * by position. Rests on reading.c for the sheet and its reads, and on loops.c.
  */
 #include "evaluator/internal.h"
-
-/* The wires that a wire reaches by one or more reads within the instant: those that it reads, and as long as any is added, those that these
- * read. */
-static uint64_t reached_from(const struct layout *layout, unsigned wire)
-{
-    uint64_t reached = layout->wire_reads[wire];
-    uint64_t before = 0;
-    while (reached != before) {
-        before = reached;
-        for (unsigned other = 0; other < layout->wires; other++) {
-            if ((before >> other & 1) != 0)
-                reached |= layout->wire_reads[other];
-        }
-    }
-    return reached;
-}
 
 /* Refusal 21. A wire that reaches itself would have to stand before itself in a list. Where none does, going from a wire to one that it
  * reads always comes to an end, so that a list exists. */
 static uint32_t check_loops(const struct layout *layout)
 {
-    for (unsigned wire = 0; wire < layout->wires; wire++) {
-        if ((reached_from(layout, wire) >> wire & 1) != 0)
-            return refusal(21, wire);
-    }
-    return 0;
+    const unsigned wire = lowest_on_loop(layout->wire_reads, layout->wires);
+    return wire < layout->wires ? refusal(21, wire) : 0;
 }
 
 static bool may_come_next(const struct layout *layout, unsigned wire, uint64_t placed)

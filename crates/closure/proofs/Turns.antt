@@ -1,7 +1,7 @@
 -- One turn of the closure, row by row: the rows behind have let the wire in, and those ahead are as they were.
 use Prim.Native.Nat.{ℕ, _+_, _≤_, _<_}
 use mathlib.Core.Path.{_≡_, refl, sym, ap, _∙_}
-use mathlib.Core.Bool.{Bool, true, false, _||_, _&&_, or-false}
+use mathlib.Core.Bool.{Bool, true, false, _||_, _&&_, or-false, and-false}
 use mathlib.Core.List.{List}
 use native.Mathlib.Numerals.{add-one}
 use native.Mathlib.Omega.{arith}
@@ -9,6 +9,7 @@ use lib.ListN.{length, getD, set}
 use lib.Seq.{getD-set-same, getD-set-other}
 use borrow.Author.Count.{below-more}
 use Rattle.wires.specs.Sets.{member}
+use Rattle.wires.specs.Laws.{none-in}
 use Rattle.sheet.specs.Laws.Lowest.{lowest-is}
 use Rattle.closure.specs.Closures.{letIn, through, lowestLoop, Rows}
 
@@ -58,6 +59,16 @@ module _ (before : List ℕ) (k own : ℕ) where
             ∙ rw (is, relates .same v w l, relates .same v k l, relates .same k w inside);
       }
 
+-- a wire that leads nowhere has nothing to add
+pub no-turn : {n k own : ℕ} {rows : List ℕ} → k < n → own ≡ getD rows k 0 → own ≡ 0
+    → (test : ℕ → ℕ → Bool) → Rows test n rows → Rows (letIn test k) n rows
+no-turn {k = k} inside is empty test relates =
+    record {
+      same = λ v w l.
+          let nowhere : test k w ≡ false = sym (relates .same k w inside) ∙ (ap (λ x. member x w) (sym is ∙ empty) ∙ none-in w) in
+          relates .same v w l ∙ sym (rw (nowhere, and-false, or-false));
+    }
+
 -- the turns one after the other
 pub first-rows : {n : ℕ} {rows : List ℕ} (test : ℕ → ℕ → Bool) → Rows test n rows → Rows (through test 0) n rows
 unfolding through
@@ -75,15 +86,3 @@ unfolding lowestLoop
 loop-found test {n} w closed within passed found =
     lowest-is (λ v. through test n v v) n w within (λ l. sym (closed .same w w l) ∙ found l)
     (λ v l. sym (closed .same v v (omega arith)) ∙ passed v l)
-
--- rows that were copied one after the other hold the same relation
-pub copied-next : (relation rows : List ℕ) (v : ℕ) → v < length rows → ((u : ℕ) → u < v → getD rows u 0 ≡ getD relation u 0)
-    → (u : ℕ) → u < v + 1 → getD (set rows v (getD relation v 0)) u 0 ≡ getD relation u 0
-copied-next relation rows v room so-far =
-    let row = getD relation v 0 in
-    below-more (λ u. getD (set rows v row) u 0 ≡ getD relation u 0) v
-    (λ u l. getD-set-other rows v u row 0 (λ (e : u ≡ v). omega arith) ∙ so-far u l) (getD-set-same rows v row 0 room)
-
-pub copied-rows : {test : ℕ → ℕ → Bool} {n : ℕ} {relation rows : List ℕ} → ((u : ℕ) → u < n → getD rows u 0 ≡ getD relation u 0)
-    → Rows test n relation → Rows test n rows
-copied-rows same relates = record { same = λ v w l. ap (λ row. member row w) (same v l) ∙ relates .same v w l }

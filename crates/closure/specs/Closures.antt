@@ -32,6 +32,12 @@ through test (suc k) v w = letIn (through test k) k v w
 unfoldable pub lowestLoop : (test : ℕ → ℕ → Bool) → ℕ → ℕ
 lowestLoop test n = lowest (λ w. through test n w w) n
 
+-- the place is the lowest of n wires that leads to itself
+pub record LowestLoop (R : ℕ → ℕ → Type 0) (n place : ℕ) : Type 0 where
+  pub inRange : place < n
+  pub loops : Closure R place place
+  pub lower : (w : ℕ) → w < place → Closure R w w → ⊥
+
 -- a relation of n wires as a set for each wire, of those that it leads to
 pub record Rows (test : ℕ → ℕ → Bool) (n : ℕ) (rows : List ℕ) : Type 0 where
   pub same : (v w : ℕ) → v < n → member (getD rows v 0) w ≡ test v w

@@ -1,14 +1,16 @@
--- The test `through` tells the closure of a relation with which only wires below n begin; and where each wire of some kind below n
--- is related to one of that kind, one of them leads to itself.
-use mathlib.Core.Path.{_≡_, refl, sym, subst}
+-- The test `through` tells the closure of a relation with which only wires below n begin, and `lowestLoop` its lowest loop; and where each
+-- wire of some kind below n is related to one of that kind, one of them leads to itself.
+use mathlib.Core.Path.{_≡_, refl, sym, subst, _∙_}
 use Prim.Native.Nat.{ℕ, zero, suc, _≤_, _<_, zero-le}
 use native.Mathlib.Omega.{arith}
-use mathlib.Core.Bool.{Bool, true, false, _&&_, or-true}
+use mathlib.Core.Bool.{Bool, true, false, _&&_, or-true, true≢false}
 use mathlib.Core.Logic.{_⊎_, inl, inr}
 use lib.Dec.{ltb}
 use borrow.Author.Tests.{ltb-true, ltb-false}
+use Rattle.sheet.specs.Outcomes.{lowest}
 use Rattle.sheet.specs.Laws.Lists.{both, either}
-use Rattle.closure.specs.Closures.{Closure, one, _then_, Tells, through}
+use Rattle.sheet.specs.Laws.Lowest.{lowest-found, lowest-first, lowest-below}
+use Rattle.closure.specs.Closures.{Closure, one, _then_, Tells, through, lowestLoop, LowestLoop}
 
 pub join : {R : ℕ → ℕ → Type 0} {u v w : ℕ} → Closure R u v → Closure R v w → Closure R u w
 join (one r) d = r then d
@@ -76,14 +78,31 @@ module _ {R : ℕ → ℕ → Type 0} {test : ℕ → ℕ → Bool} (tells : Tel
       go leads (inl p) = leads v w p
       go leads (inr (p, q)) = join (leads v k p) (leads k w q)
 
-  pub leads-through : (n : ℕ) → ((v w : ℕ) → R v w → v < n) → {v w : ℕ} → Closure R v w → through test n v w ≡ true
-  leads-through n from (one {v} {w} r) = at-once test n v w (tells .said v w r)
-  leads-through n from (_then_ {u} {v} {w} r c) =
-      by-way test n u v w (begins c) (at-once test n u v (tells .said u v r)) (leads-through n from c)
-    where
-      begins : {v w : ℕ} → Closure R v w → v < n
-      begins (one {v} {w} r) = from v w r
-      begins (_then_ {u} {v} r c) = from u v r
+  -- Only wires below n lead anywhere.
+  module _ (n : ℕ) (from : (v w : ℕ) → R v w → v < n) where
+    pub leads-from : {v w : ℕ} → Closure R v w → v < n
+    leads-from (one {v} {w} r) = from v w r
+    leads-from (_then_ {u} {v} r c) = from u v r
+
+    pub leads-through : {v w : ℕ} → Closure R v w → through test n v w ≡ true
+    leads-through (one {v} {w} r) = at-once test n v w (tells .said v w r)
+    leads-through (_then_ {u} {v} {w} r c) =
+        by-way test n u v w (leads-from c) (at-once test n u v (tells .said u v r)) (leads-through c)
+
+    -- where a wire leads to itself, the lowest such wire is found, and what is found is that
+    pub finds-loop : (w : ℕ) → Closure R w w → lowestLoop test n < n
+    unfolding lowestLoop
+    finds-loop w c = lowest-below (λ x. through test n x x) n w (leads-from c) (leads-through c)
+
+    pub found-lowest : lowestLoop test n < n → LowestLoop R n (lowestLoop test n)
+    unfolding lowestLoop
+    found-lowest l =
+        let loops : ℕ → Bool = λ x. through test n x x in
+        record {
+          inRange = l;
+          loops = through-leads n (lowest loops n) (lowest loops n) (lowest-found loops n l);
+          lower = λ w m c. true≢false (sym (leads-through c) ∙ lowest-first loops n w m);
+        }
 
 -- P is a kind of wires below n, each related to one of the kind.
 module _ {R : ℕ → ℕ → Type 0} {P : ℕ → Type 0} (n : ℕ) (below : (v : ℕ) → P v → v < n)

@@ -7,13 +7,16 @@ ghost use Prim.Native.Nat.{ℕ, _≤_, _<_};
 ghost use lib.ListN.{length};
 ghost use Rattle.closure.specs.Closures.{letIn, through, lowestLoop, Rows};
 
-// Lets wire k in between: whatever leads to it leads to all that it leads to.
+// Lets wire k in between: whatever leads to it leads to all that it leads to. A wire that leads nowhere adds nothing.
 fn let_in(rows: &mut [u64; 64], count: usize, k: usize)
     requires { ⌜ (k < count) × (count ≤ 64) × (64 ≤ length (now rows)) ⌝ }
     ensures { λ _. ⌜ ((test : ℕ → ℕ → Bool) → Rows test count (now (rows .entry)) → Rows (letIn test k) count (now (rows .exit))) ⌝ }
     ensures { λ _. ⌜ length (now (rows .exit)) ≡ length (now (rows .entry)) ⌝ }
 {
     let own = rows[k];
+    if own == 0 {
+        return;
+    }
     let mut v = 0;
     while v < count {
         let bits = rows[v];
@@ -38,27 +41,13 @@ fn close(rows: &mut [u64; 64], count: usize)
     }
 }
 
-// The closure of the relation of so many wires; what it has beyond them is free.
-pub fn closed(relation: &[u64; 64], count: usize) -> [u64; 64]
-    requires { ⌜ count ≤ 64 ⌝ }
-    ensures { λ r. ⌜ ((test : ℕ → ℕ → Bool) → Rows test count (now (relation .entry)) → Rows (through test count) count r) ⌝ }
+// The lowest wire that leads to itself in one or more steps, or the count of the wires where none does. The rows are
+// closed in place, and what they hold then is free.
+pub fn lowest_loop(rows: &mut [u64; 64], count: usize) -> usize
+    requires { ⌜ (count ≤ 64) × (64 ≤ length (now rows)) ⌝ }
+    ensures { λ r. ⌜ ((test : ℕ → ℕ → Bool) → Rows test count (now (rows .entry)) → r ≡ lowestLoop test count) ⌝ }
 {
-    let mut rows = [0u64; 64];
-    let mut v = 0;
-    while v < count {
-        rows[v] = relation[v];
-        v += 1;
-    }
-    close(&mut rows, count);
-    rows
-}
-
-// The lowest wire that leads to itself in one or more steps, or the count of the wires where none does.
-pub fn lowest_loop(relation: &[u64; 64], count: usize) -> usize
-    requires { ⌜ count ≤ 64 ⌝ }
-    ensures { λ r. ⌜ ((test : ℕ → ℕ → Bool) → Rows test count (now (relation .entry)) → r ≡ lowestLoop test count) ⌝ }
-{
-    let rows = closed(relation, count);
+    close(rows, count);
     let mut w = 0;
     while w < count {
         let bits = rows[w];

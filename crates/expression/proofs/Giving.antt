@@ -37,7 +37,7 @@ choice-of-words t true v w = refl
 choice-of-words t false v w = refl
 
 -- what a place sees of its cell
-seen-cell : (t : ValueType) (fresh : Bool) (memory : List ℕ) (k : ℕ) → isSeen fresh memory k ≡ true
+pub seen-cell : (t : ValueType) (fresh : Bool) (memory : List ℕ) (k : ℕ) → isSeen fresh memory k ≡ true
     → cond fresh NotStarted (readCell t memory k) ≡ Started (datumOf t (cellWordAt memory k))
 seen-cell t true memory k e = never (cc)
 seen-cell t false memory k e = by (eqb (getD memory (5 * k) 0) 0) refl
@@ -46,7 +46,7 @@ seen-cell t false memory k e = by (eqb (getD memory (5 * k) 0) 0) refl
     by true m = let f : _≡_ {A = Bool} false true = rw m at e in never (cc)
     by false m = rw m
 
-unseen-cell : (t : ValueType) (fresh : Bool) (memory : List ℕ) (k : ℕ) → isSeen fresh memory k ≡ false
+pub unseen-cell : (t : ValueType) (fresh : Bool) (memory : List ℕ) (k : ℕ) → isSeen fresh memory k ≡ false
     → cond fresh NotStarted (readCell t memory k) ≡ NotStarted
 unseen-cell t true memory k e = refl
 unseen-cell t false memory k e = by (eqb (getD memory (5 * k) 0) 0) refl
@@ -183,7 +183,7 @@ module _ {sheet memory words : List ℕ} {bits level asked at cell : ℕ}
           (rw (f, eq-eqb kind 3 of) (ap Known (sym (p .stands .onInputs (bodyAt sheet at) (w .within) ∙ rw (w .typed)))))
 
   -- it ends behind its body and owns no cell
-  leaf-ends : kind < 4 → (p .next ≡ at + 1 + bodyOf kind) × (p .count ≡ cell)
+  pub leaf-ends : kind < 4 → (p .next ≡ at + 1 + bodyOf kind) × (p .count ≡ cell)
   leaf-ends below = by (ltb kind 2) refl (eqb kind 2) refl
     where
       by : (b : Bool) → ltb kind 2 ≡ b → (c : Bool) → eqb kind 2 ≡ c → (p .next ≡ at + 1 + bodyOf kind) × (p .count ≡ cell)

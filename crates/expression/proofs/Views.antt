@@ -92,17 +92,17 @@ module _ {sheet memory words : List ℕ} {bits level asked at cell : ℕ}
   }
 
   -- what is left of the operands, one for each type
-  record Run (ts : List ℕ) (a k : ℕ) (es : List Expression) : Type 0 where
-    reads : readEach (readExpression (p .inputs) (p .wires) sheet (level - 1)) ts a k ≡ got es (p .next) (p .count)
-    cells : CellsStand memory (p .now .memory) k (formsOf es)
+  pub record Run (ts : List ℕ) (a k : ℕ) (es : List Expression) : Type 0 where
+    pub reads : readEach (readExpression (p .inputs) (p .wires) sheet (level - 1)) ts a k ≡ got es (p .next) (p .count)
+    pub cells : CellsStand memory (p .now .memory) k (formsOf es)
 
-  record Split (t : ℕ) (ts : List ℕ) (a k : ℕ) (es : List Expression) : Type 0 where
-    first : Operand t a k
-    tail : List Expression
-    rest : Run ts (first .next) (first .count) tail
-    trees : es ≡ first .tree ∷ tail
+  pub record Split (t : ℕ) (ts : List ℕ) (a k : ℕ) (es : List Expression) : Type 0 where
+    pub first : Operand t a k
+    pub tail : List Expression
+    pub rest : Run ts (first .next) (first .count) tail
+    pub trees : es ≡ first .tree ∷ tail
 
-  split : (t : ℕ) (ts : List ℕ) (a k : ℕ) {es : List Expression} → Run (t ∷ ts) a k es → Split t ts a k es
+  pub split : (t : ℕ) (ts : List ℕ) (a k : ℕ) {es : List Expression} → Run (t ∷ ts) a k es → Split t ts a k es
   unfolding formsOf
   split t ts a k r =
       let read = readExpression (p .inputs) (p .wires) sheet (level - 1) in
@@ -117,12 +117,12 @@ module _ {sheet memory words : List ℕ} {bits level asked at cell : ℕ}
         trees = v .trees;
       }
 
-  record Done (a k : ℕ) (es : List Expression) : Type 0 where
-    trees : es ≡ []
-    next : p .next ≡ a
-    count : p .count ≡ k
+  pub record Done (a k : ℕ) (es : List Expression) : Type 0 where
+    pub trees : es ≡ []
+    pub next : p .next ≡ a
+    pub count : p .count ≡ k
 
-  done : (a k : ℕ) {es : List Expression} → Run [] a k es → Done a k es
+  pub done : (a k : ℕ) {es : List Expression} → Run [] a k es → Done a k es
   unfolding readEach
   done a k r =
       let e = r .reads in
@@ -133,9 +133,9 @@ module _ {sheet memory words : List ℕ} {bits level asked at cell : ℕ}
     pub level-left : 1 ≤ level
     pub good : OwnGood (p .inputs) (p .wires) sheet (suc (level - 1)) asked at cell (at + 1 + bodyOf kind) (cell + cellsOf kind)
     pub own : CellsStand memory (p .now .memory) cell (ownForms kind (typeOfByte asked) (bodyAt sheet at))
-    operands : List Expression
-    run : Run (operandsOf kind asked) (at + 1 + bodyOf kind) (cell + cellsOf kind) operands
-    tree : p .tree ≡ built operands
+    pub operands : List Expression
+    pub run : Run (operandsOf kind asked) (at + 1 + bodyOf kind) (cell + cellsOf kind) operands
+    pub tree : p .tree ≡ built operands
 
   pub opened : Opened
   opened =

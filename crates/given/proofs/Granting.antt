@@ -136,6 +136,7 @@ module _ (s memory input output places firsts reads words : List ℕ) where
             below = rw (← named) (λ k l. omega (arith, wired, passed .outputs-are-wires k l));
             row = by .outputs ∙ ap (λ (l : List ℕ). 4 * length l) named;
             room = room;
+            setRoom = map-of .room;
           },
         )
 

@@ -40,6 +40,7 @@ pub record Granted (s memory input output places firsts reads words types output
   pub below : Below (length types) outputs
   pub row : length output ≡ 4 * length outputs
   pub room : length words ≡ 80
+  pub setRoom : 64 ≤ length reads
 
 -- what runs, with its reads
 abbrev pub grantedReads : {s memory input output places firsts reads words types outputs : List ℕ}

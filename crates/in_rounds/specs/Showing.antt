@@ -1,10 +1,8 @@
--- What an instant in rounds comes to before anything is stored, and the answer from its last round.
+-- What an instant in rounds comes to before anything is stored.
 use Prim.Native.Nat.{ℕ}
 use mathlib.Core.Path.{_≡_}
-use mathlib.Core.Bool.{Bool, cond}
 use mathlib.Core.List.{List}
 use Rattle.sheet.specs.declared.Refusal.{Refusal}
-use Rattle.sheet.specs.declared.Refusal.the-variants.{StaysUnknown}
 use Rattle.kernel.specs.Calls.{InstantCall, Shows}
 use Rattle.kernel.specs.declared.InRounds.{InRounds}
 use Rattle.kernel.specs.declared.InRounds.the-variants.{Refused as RefusedInRounds, Accepted as AcceptedInRounds}
@@ -12,10 +10,6 @@ use Rattle.rounds.specs.Settled.{Settled, storedOf}
 use Rattle.given.specs.Grants.{part, LiesIn}
 use Rattle.in_rounds.specs.declared.Shown.{Shown}
 use Rattle.in_rounds.specs.declared.Shown.the-variants.{Refused, Accepted}
-
--- accepted where all wires are known, else 20 at the last unknown wire that the last round met
-abbrev pub answerFrom : (full : Bool) (rounds last from to : ℕ) → Shown
-answerFrom full rounds last from to = cond full (Accepted rounds from to) (Refused StaysUnknown last)
 
 -- the answer of the instant
 abbrev pub answerOf : Shown → InRounds

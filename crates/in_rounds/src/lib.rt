@@ -1,5 +1,6 @@
 // The instant in rounds, and its preview, which stores nothing: one function makes the checks, the finished values and the output row
-// for both. Rests on `given` for the checks 1 to 16, on `rounds` for the values and the row, and on `next_memory` for the storing.
+// for both. Rests on `given` for the checks 1 to 16, on `rounds` for the values and the row, on `waiting` for the wire that a refusal names
+// and on `next_memory` for the storing.
 use given::Given;
 use kernel::InRounds;
 use sheet::Refusal;
@@ -8,7 +9,7 @@ ghost use mathlib.Core.Path.{_≡_};
 ghost use Prim.Native.Nat.{_≤_};
 ghost use lib.ListN.{length};
 ghost use Rattle.kernel.specs.Calls.{roundsCall, Shows, Leaves, packedRounds, Packable};
-ghost use Rattle.in_rounds.specs.Showing.{answerFrom, Prepares};
+ghost use Rattle.in_rounds.specs.Showing.{Prepares};
 
 // What an instant in rounds comes to before anything is stored: a refusal, or the rounds, and where the types of the wires stand.
 enum Shown {
@@ -85,8 +86,8 @@ pub fn preview(sheet: &[u8], memory: &[u8], input: &[u8], output: &mut [u8]) -> 
     }
 }
 
-// All of an instant in rounds but the storing: the checks 1 to 16, the finished values, and the output row, or 20. The map and the
-// words that it leaves are those by which the next memory is stored.
+// All of an instant in rounds but the storing: the checks 1 to 16, the finished values, and the output row, or 20 at the wire that really
+// loops. The map and the words that it leaves are those by which the next memory is stored.
 fn show(
     sheet: &[u8],
     memory: &[u8],
@@ -121,29 +122,29 @@ fn show(
             let types = &sheet[types_from..types_to];
             let solved = rounds::finish(sheet, memory, types, places, firsts, &reads, words);
             let known = solved.known;
-            let full = known.count() as usize == types.len();
-            if full {
+            if known.count() as usize == types.len() {
                 rounds::write_row(&sheet[outputs_from..outputs_to], words, output);
+                return Shown::Accepted {
+                    rounds: solved.rounds,
+                    types_from,
+                    types_to,
+                };
             }
-            answered(full, solved.rounds, solved.last, types_from, types_to)
+            let place = waiting::lowest_waiting(
+                sheet,
+                memory,
+                types,
+                places,
+                firsts,
+                known,
+                words,
+                &mut reads,
+            );
+            Shown::Refused {
+                why: Refusal::StaysUnknown,
+                place,
+            }
         }
-    }
-}
-
-// The answer, by whether all wires are known: 20 at the last unknown wire that the last round met.
-fn answered(full: bool, rounds: usize, last: usize, from: usize, to: usize) -> Shown
-    ensures { λ r. ⌜ r ≡ answerFrom full rounds last from to ⌝ }
-{
-    if full {
-        return Shown::Accepted {
-            rounds,
-            types_from: from,
-            types_to: to,
-        };
-    }
-    Shown::Refused {
-        why: Refusal::StaysUnknown,
-        place: last,
     }
 }
 

@@ -1,7 +1,7 @@
 -- The two instants as calls: from all buffers to the answer and what the buffers hold, refusals included.
 use Prim.Native.Nat.{ℕ, _*_, _<_}
 use mathlib.Core.Path.{_≡_}
-use mathlib.Core.Bool.{cond}
+use mathlib.Core.Bool.{Bool, cond}
 use mathlib.Core.List.{List}
 use lib.Dec.{ltb}
 use lib.ListN.{length}
@@ -14,7 +14,9 @@ use Rattle.sheet.specs.declared.Cell.{Cell}
 use Rattle.sheet.specs.declared.Refusal.the-variants.{OutputLength, StaysUnknown}
 use Rattle.kernel.specs.Values.{isUnknown}
 use Rattle.kernel.specs.Order.{valueAt}
+use Rattle.kernel.specs.Instant.{under}
 use Rattle.kernel.specs.Instants.{wireCount, rounds, finished, nextMemory, outputRow}
+use Rattle.kernel.specs.Waits.{lowestWaiting}
 use Rattle.kernel.specs.Schedules.{scheduleOf, pass}
 use Rattle.kernel.specs.declared.Value.{Value}
 use Rattle.kernel.specs.declared.InRounds.{InRounds}
@@ -37,9 +39,13 @@ givenOf s memory input output =
     unlessLength OutputLength (length output) (4 * length (sheet .outputs))
     (result (record { sheet = sheet; inputs = inputs; memory = cells })))))
 
--- the place of 20: the lowest wire that stays unknown
-unfoldable pub placeOfUnknown : ℕ → List Value → ℕ
-placeOfUnknown n wires = lowest (λ w. isUnknown (valueAt wires w)) n
+-- 20 comes where one of the n wires stays unknown
+unfoldable pub anyUnknown : ℕ → List Value → Bool
+anyUnknown n wires = ltb (lowest (λ w. isUnknown (valueAt wires w)) n) n
+
+-- the place of 20: the lowest wire that waits for itself, directly or through others (document 02, K5)
+unfoldable pub placeOfLoop : Given → List Value → ℕ
+placeOfLoop given wires = lowestWaiting (under (given .inputs) (given .memory) wires) (given .sheet .expressions)
 
 -- what an accepted instant gives: the rounds, of which a schedule makes none, and what it writes
 pub record Accepted : Type 0 where
@@ -50,8 +56,7 @@ pub record Accepted : Type 0 where
 -- from the finished values: 20, or outputs and next memory
 unfoldable pub acceptedOf : Given → (rounds : ℕ) → List Value → Outcome Accepted
 acceptedOf given rounds wires =
-    let n = wireCount (given .sheet) in
-    cond (ltb (placeOfUnknown n wires) n) (refusal StaysUnknown (placeOfUnknown n wires))
+    cond (anyUnknown (wireCount (given .sheet)) wires) (refusal StaysUnknown (placeOfLoop given wires))
     (result (record {
       rounds = rounds;
       memory = memoryBytes (nextMemory (given .sheet) (given .inputs) (given .memory) wires);

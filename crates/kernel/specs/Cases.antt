@@ -111,6 +111,19 @@ alone sheet steps = record { sheet = sheet; steps = steps; lists = along (0 ∷ 
 abbrev looping : List ℕ → List Step → Case
 looping sheet steps = record { sheet = sheet; steps = steps; lists = along (0 ∷ []) (19 * 65536) ∷ [] }
 
+-- a row that says nothing of lists
+abbrev unscheduled : List ℕ → List Step → Case
+unscheduled sheet steps = record { sheet = sheet; steps = steps; lists = [] }
+
+-- two wires, of which wire 0 is a number and the output
+abbrev pair : (inputTypes : List ℕ) → (secondType : ℕ) → (first second : List ℕ) → List ℕ
+pair inputTypes secondType first second =
+    length inputTypes ∷ (inputTypes ++ (2 ∷ 1 ∷ secondType ∷ 1 ∷ 0 ∷ (first ++ second)))
+
+-- refused 20 at the place, without inputs
+abbrev loops : ℕ → List Step
+loops place = step [] (refuses 20 place) ∷ []
+
 abbrev zero-number : List ℕ
 zero-number = 1 ∷ 0 ∷ 0 ∷ 0 ∷ 0 ∷ []
 
@@ -214,4 +227,28 @@ table =
     (gives (pos 2147483646) ∷ gives (pos 2147483647) ∷ gives (pos 2147483647) ∷ [])
     ∷ alone (single [] (17 ∷ 1 ∷ 1 ∷ 0 ∷ 0 ∷ 128 ∷ 9 ∷ 2 ∷ 0 ∷ one-number))
     (gives (minus 2147483647) ∷ gives (minus 2147483648) ∷ gives (minus 2147483648) ∷ [])
+    -- K5: wire 0 = wire 1 + 1, and wire 1 = wire 1
+    ∷ unscheduled (pair [] 1 (8 ∷ 2 ∷ 1 ∷ one-number) (2 ∷ 1 ∷ [])) (loops 1)
+    -- K5: two loops, of which wire 0 meets the higher one first
+    ∷ unscheduled (0 ∷ 3 ∷ 1 ∷ 1 ∷ 1 ∷ 1 ∷ 0 ∷ 8 ∷ 2 ∷ 2 ∷ 2 ∷ 1 ∷ 2 ∷ 1 ∷ 2 ∷ 2 ∷ []) (loops 1)
+    -- K5: no short cut: wire 0 = wire 1 + wire 0
+    ∷ unscheduled (pair [] 1 (8 ∷ 2 ∷ 1 ∷ 2 ∷ 0 ∷ []) (2 ∷ 1 ∷ [])) (loops 0)
+    -- K5: wire 1 loops through a present's condition
+    ∷ unscheduled (pair [] 1 (8 ∷ 2 ∷ 1 ∷ one-number) (13 ∷ 10 ∷ 2 ∷ 1 ∷ (zero-number ++ zero-number ++ one-number))) (loops 1)
+    -- K5: an unknown condition: of a present it alone counts, of an if the arms count too, of a reset it alone
+    ∷ unscheduled (pair [] 0 (13 ∷ 2 ∷ 1 ∷ 2 ∷ 0 ∷ zero-number) (2 ∷ 1 ∷ [])) (loops 1)
+    ∷ unscheduled (pair [] 0 (12 ∷ 2 ∷ 1 ∷ 2 ∷ 0 ∷ zero-number) (2 ∷ 1 ∷ [])) (loops 0)
+    ∷ unscheduled (pair [] 0 (14 ∷ 2 ∷ 1 ∷ 2 ∷ 0 ∷ []) (2 ∷ 1 ∷ [])) (loops 1)
+    -- K5: a known one: an arm that is not chosen names a loop; a reset's operand counts
+    ∷ unscheduled (pair [] 1 (13 ∷ 0 ∷ 0 ∷ 2 ∷ 0 ∷ 2 ∷ 1 ∷ []) (2 ∷ 1 ∷ [])) (loops 1)
+    ∷ unscheduled (pair [] 1 (14 ∷ 0 ∷ 0 ∷ 2 ∷ 0 ∷ []) (2 ∷ 1 ∷ [])) (loops 0)
+    -- K5: an fby that is not started waits for its left side, a started one does not, and one that a reset makes fresh does again
+    ∷ unscheduled (pair (0 ∷ 0 ∷ []) 1
+    (8 ∷ 14 ∷ 3 ∷ 1 ∷ 17 ∷ 13 ∷ 3 ∷ 0 ∷ (one-number ++ (2 ∷ 0 ∷ (zero-number ++ (2 ∷ 1 ∷ [])))))
+    (13 ∷ 3 ∷ 0 ∷ (one-number ++ (2 ∷ 1 ∷ []))))
+    (step (naturals (0 ∷ 0 ∷ [])) (refuses 20 0)
+    ∷ step (naturals (1 ∷ 0 ∷ [])) (accepts 3 (naturals (2 ∷ [])))
+    ∷ step (naturals (0 ∷ 0 ∷ [])) (refuses 20 1)
+    ∷ step (naturals (0 ∷ 1 ∷ [])) (refuses 20 0)
+    ∷ [])
     ∷ []

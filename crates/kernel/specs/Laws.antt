@@ -8,10 +8,12 @@ pub mod Visits
 pub mod Passes
 pub mod Agreement
 pub mod Knowing
+pub mod Waits
 pub mod Instants
 pub mod Keeping
 pub mod Due
 pub mod Solutions
+pub mod Waiting
 pub mod Schedules
 pub mod Given
 pub mod Demands

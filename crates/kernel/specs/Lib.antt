@@ -5,6 +5,7 @@ pub mod Operations
 pub mod Instant
 pub mod Systems
 pub mod Instants
+pub mod Waits
 pub mod Schedules
 pub mod Calls
 pub mod Cases

@@ -2,11 +2,11 @@
 -- visits to one wire at a time, and rounds that pass known wires over.
 use Prim.Native.Nat.{ℕ, zero, suc, _<_}
 use mathlib.Core.Path.{_≡_}
-use mathlib.Core.Bool.{Bool, true, cond}
+use mathlib.Core.Bool.{Bool, true}
 use mathlib.Core.List.{List, [], _∷_}
 use lib.ListN.{length, set}
 use Rattle.sheet.specs.Outcomes.{lowest}
-use Rattle.kernel.specs.Values.{isUnknown, IsKnown}
+use Rattle.kernel.specs.Values.{IsKnown}
 use Rattle.kernel.specs.Order.{_⊑*_, valueAt, allUnknown}
 use Rattle.kernel.specs.Equality.{sameValues}
 use Rattle.sheet.specs.Lists.{among}
@@ -34,15 +34,6 @@ keptOr (Known d) worked = Known d
 unfoldable pub renewed : (worked : ℕ → Value) → List Value → List Value
 renewed worked [] = []
 renewed worked (v ∷ vs) = keptOr v (worked 0) ∷ renewed (λ w. worked (suc w)) vs
-
--- K4's walk, from the wire below w down to wire 0: the last unknown wire that it meets, or `met` where it meets none
-unfoldable pub lastMet : List Value → (w met : ℕ) → ℕ
-lastMet values zero met = met
-lastMet values (suc w) met = lastMet values w (cond (isUnknown (valueAt values w)) w met)
-
--- of n wires; n where none is unknown
-abbrev pub lastUnknown : ℕ → List Value → ℕ
-lastUnknown n values = lastMet values n n
 
 module _ (next : List Value → List Value) where
   -- K4's round over any values, even false ones: each known wire comes back as it was, each unknown one gets what is worked out for it

@@ -29,6 +29,7 @@ pub record Passes (s rows : List ℕ) (wires : ℕ) : Type 0 where
   pub counted : wireCount sheet ≡ wires
   pub few : wires ≤ 64
   pub held : EachHoldsJust rows wires (readsOf sheet)
+  pub room : 64 ≤ length rows
 
 pub passes : (s : List ℕ) {places firsts rows cells : List ℕ} (i w o k : ℕ) → checkOf s ≡ Passed i w o k
     → ((sheet : Sheet) (n k : ℕ) (v : SheetRead s sheet n k) → Mapped (wiresOf v) places firsts rows cells) → Passes s rows w
@@ -47,6 +48,7 @@ passes s {rows = rows} i w o k e map =
       few = p .few-wires;
       held = λ x l. rw (ap (λ sheet. readsAt (sheet .expressions) x) (v .is), reads-of-tree)
           (map (p .sheet) (p .end) k v .sites .read x (omega arith));
+      room = map (p .sheet) (p .end) k v .sites .room;
     }
 
 module _ (s lent : List ℕ) where

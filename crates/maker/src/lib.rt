@@ -41,13 +41,13 @@ pub fn make(sheet: &[u8], list: &mut [u8]) -> Made
             wires,
             outputs: _,
             cells: _,
-        } => make_list(&reads, wires, list),
+        } => make_list(&mut reads, wires, list),
     }
 }
 
 // The maker on so many wires, each of which reads what its set holds.
-fn make_list(reads: &[u64; 64], wires: usize, list: &mut [u8]) -> Made
-    requires { ⌜ wires ≤ 64 ⌝ }
+fn make_list(reads: &mut [u64; 64], wires: usize, list: &mut [u8]) -> Made
+    requires { ⌜ (wires ≤ 64) × (64 ≤ length (now reads)) ⌝ }
     ensures { λ r. ⌜ ((s : Sheet) → WellTyped s → wireCount s ≡ wires → EachHoldsJust (now (reads .entry)) wires (readsOf s)
         → Makes s (now (list .entry)) r (now (list .exit))) ⌝ }
 {
@@ -65,9 +65,9 @@ fn make_list(reads: &[u64; 64], wires: usize, list: &mut [u8]) -> Made
     answered(complete, reads, wires)
 }
 
-// The answer, by whether each wire was placed: where not, 21 at the lowest wire that reaches itself.
-fn answered(whole: bool, reads: &[u64; 64], wires: usize) -> Made
-    requires { ⌜ wires ≤ 64 ⌝ }
+// The answer, by whether each wire was placed: where not, 21 at the lowest wire that reaches itself, for which the reads are closed in place.
+fn answered(whole: bool, reads: &mut [u64; 64], wires: usize) -> Made
+    requires { ⌜ (wires ≤ 64) × (64 ≤ length (now reads)) ⌝ }
     ensures { λ r. ⌜ ((test : ℕ → ℕ → Bool) → Rows test wires (now (reads .entry))
         → r ≡ cond whole Done (Refused NoSchedule (lowestLoop test wires))) ⌝ }
 {

@@ -53,17 +53,17 @@ first-within (e ∷ es) (suc w) =
     omega (arith, first-within es w, length-append (cellForms e) (formsOf (take w es)), length-append (cellForms e) (formsOf es))
 
 full-at : {s start types places firsts words : List ℕ} (f : Settled s start types places firsts words) (w : ℕ) → w < length types
-    → IsKnown (valueAt (f .values) w)
+    → IsKnown (valueAt (f .under .values) w)
 unfolding Full
 full-at f w l = f .full w l
 
 module _ {s start types places firsts words : List ℕ} (f : Settled s start types places firsts words)
   where
     abbrev trees : List Expression
-    trees = f .running .given .sheet .expressions
+    trees = f .under .running .given .sheet .expressions
 
     abbrev environment : Environment
-    environment = under (f .running .given .inputs) (f .running .given .memory) (f .values)
+    environment = under (f .under .running .given .inputs) (f .under .running .given .memory) (f .under .values)
 
     -- the number of the first cell of wire w
     abbrev first : ℕ → ℕ
@@ -72,12 +72,12 @@ module _ {s start types places firsts words : List ℕ} (f : Settled s start typ
     -- the wires below w are done, and what those that are left store makes the next memory of it
     pub record Stored (w : ℕ) (memory : List ℕ) : Type 0 where
       pub room : length memory ≡ length start
-      pub cells : CellsStand memory (f .running .given .memory) (first w) (formsOf (drop w trees))
+      pub cells : CellsStand memory (f .under .running .given .memory) (first w) (formsOf (drop w trees))
       pub rest : sets memory (5 * first w) (memoryBytes (storedCells environment (drop w trees) (first w))) ≡ storedOf f
 
     -- the cells that the wires own are those of the memory
-    owned : (length (formsOf trees) ≡ length (f .running .given .memory)) × (length start ≡ 5 * length (formsOf trees))
-    owned = (pairwise-length (f .running .validMemory), f .running .memorySize)
+    owned : (length (formsOf trees) ≡ length (f .under .running .given .memory)) × (length start ≡ 5 * length (formsOf trees))
+    owned = (pairwise-length (f .under .running .validMemory), f .under .running .memorySize)
 
     pub unstored : Stored 0 start
     unfolding nextMemory formsOf
@@ -86,7 +86,7 @@ module _ {s start types places firsts words : List ℕ} (f : Settled s start typ
         let count = cells-length environment trees 0 (omega (arith, owned .0)) in
         record {
           room = refl;
-          cells = f .running .cells;
+          cells = f .under .running .cells;
           rest = sets-all (memoryBytes all) start (omega (arith, memory-length all, owned .1));
         }
 
@@ -94,14 +94,14 @@ module _ {s start types places firsts words : List ℕ} (f : Settled s start typ
     record Turn (w : ℕ) (memory : List ℕ) : Type 0 where
       trees-left : drop w trees ≡ expressionAt trees w ∷ drop (suc w) trees
       counted : first (suc w) ≡ first w + cellCount (expressionAt trees w)
-      cells : CellsStand memory (f .running .given .memory) (first w) (cellForms (expressionAt trees w))
-      behind : CellsStand memory (f .running .given .memory) (first (suc w)) (formsOf (drop (suc w) trees))
+      cells : CellsStand memory (f .under .running .given .memory) (first w) (cellForms (expressionAt trees w))
+      behind : CellsStand memory (f .under .running .given .memory) (first (suc w)) (formsOf (drop (suc w) trees))
       within : first (suc w) ≤ length (formsOf trees)
 
     turn : {w : ℕ} {memory : List ℕ} → Stored w memory → w < length types → Turn w memory
     unfolding formsOf
     turn {w} h l =
-        let inside : w < length trees = omega (arith, wires-counted (f .running)) in
+        let inside : w < length trees = omega (arith, wires-counted (f .under .running)) in
         let split = drop-cons trees w (constant (Boolean false)) inside in
         let both = cells-split (cellForms (expressionAt trees w)) (formsOf (drop (suc w) trees)) (rw split at (h .cells)) in
         let count : first (suc w) ≡ first w + length (cellForms (expressionAt trees w)) =
@@ -120,22 +120,22 @@ module _ {s start types places firsts words : List ℕ} (f : Settled s start typ
         → Ready s memory words 16 (getD types w 0) at cell
     ready {w} h l p q =
         let t = turn h l in
-        let here = f .running .starts w l in
+        let here = f .under .running .starts w l in
         let number = q ∙ here .first in
-        let extent = expression-extent (f .running .inputs) types s 16 (getD types w 0) (getD places w 0) (getD firsts w 0) (here .reads) in
+        let extent = expression-extent (f .under .running .inputs) types s 16 (getD types w 0) (getD places w 0) (getD firsts w 0) (here .reads) in
         let count : here .count ≡ first (suc w) = omega (arith, extent .counted, here .first, t .counted) in
         record {
           bits = f .bits;
-          full = λ x m. known-held (full-at f x m) (f .holds .each x m);
+          full = λ x m. known-held (full-at f x m) (f .under .holds .each x m);
           place = record {
-            inputs = f .running .inputs;
+            inputs = f .under .running .inputs;
             wires = types;
             now = environment;
             tree = expressionAt trees w;
             next = here .next;
             count = here .count;
             reads = rw (p, q) (here .reads);
-            stands = running-stands (f .running) (f .holds) (f .typed);
+            stands = running-stands (f .under .running) (f .under .holds) (f .under .typed);
             cells = rw number (t .cells);
           };
           within = omega (arith, t .within, owned .0, count);
@@ -168,7 +168,7 @@ module _ {s start types places firsts words : List ℕ} (f : Settled s start typ
         (q : cell ≡ getD firsts w 0) (v : Advanced) → Advances (ready h l p q) false v after → Stored (w + 1) after
     unfolding ready
     one-stored {w} {at} {cell} h l p q v a =
-        let number : cell ≡ first w = q ∙ f .running .starts w l .first in
+        let number : cell ≡ first w = q ∙ f .under .running .starts w l .first in
         further h l (rw number at (a .holds))
 
     -- a wire without cells stores nothing
@@ -178,15 +178,15 @@ module _ {s start types places firsts words : List ℕ} (f : Settled s start typ
     none-stored {w} {memory} h (l, same) =
         let inside : w < length types = omega arith in
         let t = turn h inside in
-        let next : getD firsts (suc w) 0 ≡ first (suc w) = rw add-one at (f .running .starts (w + 1) l .first) in
+        let next : getD firsts (suc w) 0 ≡ first (suc w) = rw add-one at (f .under .running .starts (w + 1) l .first) in
         let alike : getD firsts w 0 ≡ getD firsts (suc w) 0 = rw add-one at same in
         let cells = stored environment false (expressionAt trees w) (first w) in
         let size = stored-length environment false (expressionAt trees w) (first w) (omega (arith, t .within, t .counted, owned .0)) in
-        let nothing : cells ≡ [] = no-cells cells (omega (arith, size, t .counted, f .running .starts w inside .first)) in
+        let nothing : cells ≡ [] = no-cells cells (omega (arith, size, t .counted, f .under .running .starts w inside .first)) in
         further h inside (rw nothing)
 
     pub all-stored : {w : ℕ} {memory : List ℕ} → Stored w memory → w ≡ length types → memory ≡ storedOf f
     unfolding storedCells memoryBytes
     all-stored {w} h e =
-        let ends : w ≡ length trees = omega (arith, wires-counted (f .running)) in
+        let ends : w ≡ length trees = omega (arith, wires-counted (f .under .running)) in
         rw (ends, drop-length) at (h .rest)

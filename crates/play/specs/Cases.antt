@@ -14,11 +14,14 @@ use Rattle.sheet.specs.Headers.{fieldOf, bytesOf, sectionOf}
 use Rattle.sheet.specs.Sheets.{formsOf, outputsFrom, wiresFrom, readSheet, sheetOf}
 use Rattle.sheet.specs.Memory.{memoryBytes, invalidAt, cellsFrom, memoryOf, startMemory, startOutcome, startCall}
 use Rattle.sheet.specs.Rows.{rowBytes, wrongAt, dataFrom, inputsOf}
+use Rattle.sheet.specs.Lists.{among}
+use Rattle.closure.specs.Closures.{through, lowestLoop}
+use Rattle.kernel.specs.Waits.{wiresAwaited, waitsFor, lowestWaiting}
 use Rattle.kernel.specs.Equality.{sameDatum, sameValue, sameValues}
 use Rattle.kernel.specs.Instant.{value, kept, stored}
 use Rattle.kernel.specs.Systems as System
 use Rattle.kernel.specs.Instants.{valueOfWire, values, storedCells, round, rounds, finished, nextMemory, outputRow}
-use Rattle.kernel.specs.Calls.{givenOf, placeOfUnknown, acceptedOf, inRounds, roundsCall}
+use Rattle.kernel.specs.Calls.{givenOf, anyUnknown, placeOfLoop, acceptedOf, inRounds, roundsCall}
 use Rattle.text.specs.Pieces.{numbersOf}
 use Rattle.lines.specs.Lines.{shortLine, refusedLine, sheetLine, leftLine, rowLine}
 use Rattle.play.specs.Text.{played, instantsText, bytesText, playText}
@@ -32,7 +35,7 @@ abbrev quarter : List ℕ
 quarter = 40 ∷ 0 ∷ quarterBytes
 
 -- the block of document 01; no byte, and a sheet that lacks one; a sheet of no bytes; no row, and one that is not whole; a row with a
--- 2 for a Boolean, and one behind it; case B
+-- 2 for a Boolean, and one behind it; case B; the sheet of document 02's K5
 texts :
     playText (quarter ++ pair 1 0 ++ pair 1 0 ++ pair 1 1 ++ pair 0 0 ++ pair 0 1)
     ∷ playText []
@@ -42,6 +45,7 @@ texts :
     ∷ playText (quarter ++ 1 ∷ 0 ∷ 0 ∷ [])
     ∷ playText (quarter ++ pair 1 2 ++ pair 0 0)
     ∷ playText (7 ∷ 0 ∷ 0 ∷ 1 ∷ 1 ∷ 1 ∷ 0 ∷ 2 ∷ 0 ∷ [])
+    ∷ playText (16 ∷ 0 ∷ 0 ∷ 2 ∷ 1 ∷ 1 ∷ 1 ∷ 0 ∷ 8 ∷ 2 ∷ 1 ∷ 1 ∷ 1 ∷ 0 ∷ 0 ∷ 0 ∷ 2 ∷ 1 ∷ [])
     ∷ []
     ≡ (sheetLine 2 2 2 2
     ∷ rowLine 0 (pos 1 ∷ pos 0 ∷ [])
@@ -58,6 +62,7 @@ texts :
     ∷ (sheetLine 2 2 2 2 ∷ leftLine 3 ∷ [])
     ∷ (sheetLine 2 2 2 2 ∷ refusedLine 15 1 ∷ [])
     ∷ (sheetLine 0 1 1 0 ∷ refusedLine 20 0 ∷ [])
+    ∷ (sheetLine 0 2 1 0 ∷ refusedLine 20 1 ∷ [])
     ∷ []
 unfolding settled equals cellForms cellCount meaningOf operandsOf lowest
     readEach namesOf bodyFrom ownOf readExpression fieldOf bytesOf sectionOf formsOf outputsFrom wiresFrom readSheet sheetOf
@@ -65,5 +70,6 @@ unfolding settled equals cellForms cellCount meaningOf operandsOf lowest
     sameDatum sameValue sameValues value kept stored
     System.after System.unchanged System.rounds System.finished
     valueOfWire values storedCells round rounds finished nextMemory outputRow
-    givenOf placeOfUnknown acceptedOf inRounds roundsCall numbersOf played instantsText bytesText
+    through lowestLoop among wiresAwaited waitsFor lowestWaiting givenOf anyUnknown placeOfLoop acceptedOf inRounds roundsCall
+    numbersOf played instantsText bytesText
 texts = refl

@@ -98,10 +98,12 @@ module _ {s memory row types places firsts reads : List ℕ} (run : RunningReads
   unfolding System.after
   before {k} h =
       record {
-        running = r;
-        values = after k;
-        holds = h .holds;
-        typed = after-typed (r .given .sheet) (r .given .inputs) (r .given .memory) (r .wellTyped) (r .validInputs) (r .validMemory) k;
+        under = record {
+          running = r;
+          values = after k;
+          holds = h .holds;
+          typed = after-typed (r .given .sheet) (r .given .inputs) (r .given .memory) (r .wellTyped) (r .validInputs) (r .validMemory) k;
+        };
         whichDue = h .whichDue;
       }
 
@@ -112,25 +114,23 @@ module _ {s memory row types places firsts reads : List ℕ} (run : RunningReads
       subst (λ (x : List ℕ). Before s memory x types places firsts bits due words) (sym (h .holds .inputs)) (before h)
 
   -- what a round makes of the values before it, and of the inputs' words
-  abbrev pub Made : (row : List ℕ) (bits due : ℕ) (words : List ℕ) (grown last : ℕ) (new : List ℕ) → Type 0
-  Made row bits due words grown last new = (b : Before s memory row types places firsts bits due words)
-      → Holds (length types) row grown new (System.roundOver (roundOf (b .running)) (b .values))
-      × (last ≡ System.lastUnknown (length types) (b .values))
+  abbrev pub Made : (row : List ℕ) (bits due : ℕ) (words : List ℕ) (grown : ℕ) (new : List ℕ) → Type 0
+  Made row bits due words grown new = (b : Before s memory row types places firsts bits due words)
+      → Holds (length types) row grown new (System.roundOver (roundOf (b .under .running)) (b .under .values))
 
   -- One round more.
-  module _ {k bits due grown last : ℕ} {words new : List ℕ} (h : Rounded k bits due words)
-      (made : Made (inputWords words) bits due words grown last new) where
+  module _ {k bits due grown : ℕ} {words new : List ℕ} (h : Rounded k bits due words)
+      (made : Made (inputWords words) bits due words grown new) where
     here : Holds (length types) row grown new (System.roundOver (roundOf r) (after k))
-        × (last ≡ System.lastUnknown (length types) (after k))
     unfolding before
-    here = subst (λ (x : List ℕ). Made x bits due words grown last new) (h .holds .inputs) made (before h)
+    here = subst (λ (x : List ℕ). Made x bits due words grown new) (h .holds .inputs) made (before h)
 
     -- as the values grow, it is the round of the definition
     next : Holds (length types) row grown new (after (suc k))
     unfolding System.after
     next =
         rw (over-grown (roundOf r) (after k) (monotone .sized (after k) ∙ sym (after-length _ (roundOf r) monotone k)) (ascends k)) at
-        (here .0)
+        here
 
     sizes : length (after k) ≡ length (after (suc k))
     sizes = h .holds .size ∙ sym (next .size)
@@ -206,8 +206,7 @@ module _ {s memory row types places firsts reads : List ℕ} (run : RunningReads
         → let given = r .given in
         Holds (length types) row grown new (finished (given .sheet) (given .inputs) (given .memory))
         × (k + 1 ≡ rounds (given .sheet) (given .inputs) (given .memory))
-        × (last ≡ System.lastUnknown (length types) (finished (given .sheet) (given .inputs) (given .memory)))
     unfolding finished rounds System.finished
     ended none =
         let count = rounds-unique (wireCount (r .given .sheet)) (roundOf r) monotone k (unchanged none) (h .changed) in
-        (rw count next, rw add-one (sym count), here .1 ∙ rw count (ap (System.lastUnknown (length types)) (unchanged none)))
+        (rw count next, rw add-one (sym count))

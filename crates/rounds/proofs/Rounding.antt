@@ -1,25 +1,21 @@
 -- How a round goes on: the wires that are not left have their new values, and the words still hold the old ones.
-use Prim.Native.Nat.{ℕ, suc, _≤_, _<_}
+use Prim.Native.Nat.{ℕ, _≤_, _<_}
 use mathlib.Core.Path.{_≡_, refl, sym, ap, _∙_}
 use mathlib.Core.Logic.{_≢_}
-use mathlib.Core.Bool.{Bool, true, false, not, _&&_, true≢false}
+use mathlib.Core.Bool.{Bool, true, false, not, _&&_}
 use mathlib.Core.List.{List}
-use native.Mathlib.Nat.{lt-of-not-le}
 use native.Mathlib.Omega.{arith}
 use lib.Dec.{eqb, ltb}
 use lib.ListN.{length, getD, length-set, List·getD-eq-default}
 use lib.Seq.{getD-set-same, getD-set-other, drop-set-lt}
 use borrow.Author.Tests.{eq-eqb, ltb-true, ltb-false, not-true}
-use Rattle.wires.specs.Sets.{member, LowestMissing}
+use Rattle.wires.specs.Sets.{member}
 use Rattle.wires.specs.Laws.{at-or-else, added-other, taken-other, left-other}
 use Rattle.sheet.specs.Laws.Lists.{never, both}
-use Rattle.sheet.specs.Laws.Lowest.{lowest-is}
-use Rattle.kernel.specs.Values.{isUnknown, IsKnown, known}
+use Rattle.kernel.specs.Values.{IsKnown, known}
 use Rattle.kernel.specs.Order.{valueAt}
-use Rattle.kernel.specs.Systems.{lastUnknown, roundOver}
-use Rattle.kernel.specs.Calls.{placeOfUnknown}
-use Rattle.kernel.specs.Laws.Order.{known-not}
-use Rattle.kernel.specs.Laws.Keeping.{over-length, over-known, over-unknown, last-lowest}
+use Rattle.kernel.specs.Systems.{roundOver}
+use Rattle.kernel.specs.Laws.Keeping.{over-length, over-known, over-unknown}
 use Rattle.kernel.specs.Laws.Instants.{round-at}
 use Rattle.kernel.specs.declared.Value.{Value}
 use Rattle.kernel.specs.declared.Value.the-variants.{Unknown}
@@ -79,71 +75,58 @@ module _ {w bits after : ℕ} {words new : List ℕ} where
   put-held (left m e) l out = rw (m, out) unheld
   put-held (put m e) l out = rw (m w, out, eq-eqb w w refl) (held (ap (λ x. getD x w 0) e ∙ getD-set-same words w _ 0 l))
 
--- the lowest wire that the set misses is the last unknown one that a walk from the highest wire to the lowest meets
-pub met-last : {n bits last : ℕ} {row words : List ℕ} {values : List Value} → Holds n row bits words values → n ≤ 64
-    → LowestMissing (member bits) 64 last → last ≡ lastUnknown n values
-unfolding placeOfUnknown
-met-last {n} {bits} {last} {values = values} h few low =
-    lowest-is (λ w. isUnknown (valueAt values w)) n last within (λ l. ap isUnknown (out-unknown h last (low .missing (omega arith))))
-    (λ j l. known-not (held-known (low .below j l) (h .each j (omega (arith, within)))))
-    ∙ sym (last-lowest n values)
-  where
-    within : last ≤ n
-    within =
-        let l : last < suc n = lt-of-not-le (λ (l : n < last). true≢false (sym (low .below n l) ∙ h .beyond n (omega arith))) in omega arith
-
 module _ {s memory row types places firsts start : List ℕ} {bits due : ℕ}
     (b : Before s memory row types places firsts bits due start) where
   abbrev pub rounded : List Value
-  rounded = roundOver (roundOf (b .running)) (b .values)
+  rounded = roundOver (roundOf (b .under .running)) (b .under .values)
 
   -- the wires that are not left have their new values; the words still hold the values before
   pub record Midway (left grown : ℕ) (words : List ℕ) : Type 0 where
-    pub holds : Holds (length types) row bits words (b .values)
+    pub holds : Holds (length types) row bits words (b .under .values)
     pub ahead : (x : ℕ) → member left x ≡ true → (x < length types) × (member bits x ≡ false) × (member grown x ≡ false)
     pub done : (x : ℕ) → x < length types → member left x ≡ false → Held (member grown x) (getD words x 0) (valueAt rounded x)
     pub beyond : (x : ℕ) → length types ≤ x → member grown x ≡ false
 
   -- a wire that is passed over is known, and comes back as it was, or would stay unknown
   passed-over : (x : ℕ) → x < length types → (t u : Bool) → member bits x ≡ t → member due x ≡ u → (u && not t) ≡ false
-      → valueAt rounded x ≡ valueAt (b .values) x
+      → valueAt rounded x ≡ valueAt (b .under .values) x
   passed-over x l true u k d e =
-      over-known (roundOf (b .running)) (b .values) x (omega (arith, b .holds .size)) (held-known k (b .holds .each x l))
+      over-known (roundOf (b .under .running)) (b .under .values) x (omega (arith, b .under .holds .size)) (held-known k (b .under .holds .each x l))
   passed-over x l false true k d e = never (cc)
   passed-over x l false false k d e =
-      let unknown = out-unknown (b .holds) x k in
-      over-unknown (roundOf (b .running)) (b .values) x (omega (arith, b .holds .size)) unknown
+      let unknown = out-unknown (b .under .holds) x k in
+      over-unknown (roundOf (b .under .running)) (b .under .values) x (omega (arith, b .under .holds .size)) unknown
       ∙ b .whichDue .rests x l k d ∙ sym unknown
 
   pub begun : {left : ℕ} → ((k : ℕ) → member left k ≡ (member due k && not (member bits k))) → Midway left bits start
   begun left-are =
       record {
-        holds = b .holds;
+        holds = b .under .holds;
         ahead = λ x e. let (is-due, out) = both (member due x) (not (member bits x)) (sym (left-are x) ∙ e) in
             let unknown = not-true (member bits x) out in (b .whichDue .within x is-due, unknown, unknown);
         done = λ x l e.
-            rw (passed-over x l (member bits x) (member due x) refl refl (sym (left-are x) ∙ e)) (b .holds .each x l);
-        beyond = b .holds .beyond;
+            rw (passed-over x l (member bits x) (member due x) refl refl (sym (left-are x) ∙ e)) (b .under .holds .each x l);
+        beyond = b .under .holds .beyond;
       }
 
   -- where the expression of wire w stands
   abbrev pub placed : {w left grown at cell : ℕ} {words : List ℕ} → Midway left grown words → w < length types → at ≡ getD places w 0
       → cell ≡ getD firsts w 0 → Placement s memory words bits 16 (getD types w 0) at cell
-  placed {w} m l = wire-placed (b .running) (m .holds) (b .typed) w l
+  placed {w} m l = wire-placed (b .under .running) (m .holds) (b .under .typed) w l
 
   -- wire w, which is left, gets its new value
   module _ {w left grown at cell : ℕ} {words : List ℕ} (m : Midway left grown words) (next : member left w ≡ true)
       (l : w < length types) (at-is : at ≡ getD places w 0) (cell-is : cell ≡ getD firsts w 0)
       (v : Value) (e : v ≡ wholeValue (placed m l at-is cell-is) false) where
-    was-unknown : valueAt (b .values) w ≡ Unknown
-    was-unknown = out-unknown (b .holds) w (m .ahead w next .1)
+    was-unknown : valueAt (b .under .values) w ≡ Unknown
+    was-unknown = out-unknown (b .under .holds) w (m .ahead w next .1)
 
     worth : v ≡ valueAt rounded w
     worth =
-        let r = b .running in
-        e ∙ wire-valued r (b .values) w l cell-is
-        ∙ sym (round-at (r .given .sheet) (r .given .inputs) (r .given .memory) (b .values) w)
-        ∙ sym (over-unknown (roundOf r) (b .values) w (omega (arith, b .holds .size)) was-unknown)
+        let r = b .under .running in
+        e ∙ wire-valued r (b .under .values) w l cell-is
+        ∙ sym (round-at (r .given .sheet) (r .given .inputs) (r .given .memory) (b .under .values) w)
+        ∙ sym (over-unknown (roundOf r) (b .under .values) w (omega (arith, b .under .holds .size)) was-unknown)
 
     pub further : {after rest : ℕ} {new : List ℕ} → Put w grown words v after new
         → ((k : ℕ) → member rest k ≡ (member left k && not (eqb k w))) → Midway rest after new
@@ -151,14 +134,14 @@ module _ {s memory row types places firsts start : List ℕ} {bits due : ℕ}
         let h = m .holds in
         let here : Held (member after w) (getD new w 0) (valueAt rounded w) =
         rw worth at (put-held p (omega (arith, h .room)) (m .ahead w next .2)) in
-        let still : Held (member bits w) (getD new w 0) (valueAt (b .values) w) = rw (m .ahead w next .1, was-unknown) unheld in
+        let still : Held (member bits w) (getD new w 0) (valueAt (b .under .values) w) = rw (m .ahead w next .1, was-unknown) unheld in
         record {
           holds = record {
-            inputs = put-inputs p (omega (arith, b .running .few)) ∙ h .inputs;
+            inputs = put-inputs p (omega (arith, b .under .running .few)) ∙ h .inputs;
             size = h .size;
             room = omega (arith, h .room, put-length p);
             each = λ x k.
-                at-or-else (λ x. Held (member bits x) (getD new x 0) (valueAt (b .values) x)) w x still
+                at-or-else (λ x. Held (member bits x) (getD new x 0) (valueAt (b .under .values) x)) w x still
                 (λ other. rw (put-other p x other .1) (h .each x k));
             beyond = h .beyond;
           };
@@ -176,7 +159,7 @@ module _ {s memory row types places firsts start : List ℕ} {bits due : ℕ}
   round-done m none =
       record {
         inputs = m .holds .inputs;
-        size = over-length (roundOf (b .running)) (b .values) ∙ b .holds .size;
+        size = over-length (roundOf (b .under .running)) (b .under .values) ∙ b .under .holds .size;
         room = m .holds .room;
         each = λ x k. m .done x k (none x);
         beyond = m .beyond;

@@ -68,13 +68,17 @@ pub record Holds (n : ℕ) (row : List ℕ) (bits : ℕ) (words : List ℕ) (val
 abbrev pub roundOf : {s memory row types places firsts : List ℕ} → Running s memory row types places firsts → List Value → List Value
 roundOf r = round (r .given .sheet) (r .given .inputs) (r .given .memory)
 
--- what runs, with any typed values before a round, even false ones, and the wires that are due in it
-pub record Before (s memory row types places firsts : List ℕ) (bits due : ℕ) (words : List ℕ) : Type 0 where
+-- what runs, with any typed values of its wires, even false ones, which a set and words hold
+pub record RunningUnder (s memory row types places firsts : List ℕ) (bits : ℕ) (words : List ℕ) : Type 0 where
   pub running : Running s memory row types places firsts
   pub values : List Value
   pub holds : Holds (length types) row bits words values
   pub typed : OnWires Fits (running .given .sheet .wireTypes) values
-  pub whichDue : DueIn (length types) bits due (roundOf running values)
+
+-- the same before a round, with the wires that are due in it
+pub record Before (s memory row types places firsts : List ℕ) (bits due : ℕ) (words : List ℕ) : Type 0 where
+  pub under : RunningUnder s memory row types places firsts bits words
+  pub whichDue : DueIn (length types) bits due (roundOf (under .running) (under .values))
 
 -- the value of wire w was put into a set and words: an unknown one changes nothing
 pub data Put (w bits : ℕ) (words : List ℕ) : Value → (after : ℕ) → List ℕ → Type 0 where

@@ -8,24 +8,16 @@ use wires::Wires;
 ghost use mathlib.Core.Path.{_≡_};
 ghost use Prim.Native.Nat.{_*_, _≤_, _<_};
 ghost use lib.ListN.{length};
-ghost use Rattle.kernel.specs.Systems.{lastUnknown, roundOver};
+ghost use Rattle.kernel.specs.Systems.{roundOver};
 ghost use Rattle.kernel.specs.Instants.{rounds, finished};
 ghost use Rattle.leaves.specs.Words.{inputWords};
 ghost use Rattle.rounds.specs.Running.{RunningReads, Holds, roundOf, Before, Put};
 ghost use Rattle.rounds.specs.Outputs.{Below, wordsOf};
 
-// What a round hands back: the known wires, grown or the same, and the last unknown wire that it met, or the count of wires where it
-// met none.
-struct AfterRound {
-    known: Wires,
-    last: usize,
-}
-
-// What the rounds of an instant come to: the known wires, the rounds that were made, and the last unknown wire that the last of them met.
+// What the rounds of an instant come to: the known wires, and the rounds that were made.
 pub struct Finished {
     pub known: Wires,
     pub rounds: usize,
-    pub last: usize,
 }
 
 // Puts the value of a wire: a known one into the set, and its word into the words.
@@ -44,7 +36,7 @@ pub fn put_value(worth: Value, wire: usize, known: Wires, words: &mut [u32; 80])
 
 // One round over any values, from the highest wire to the lowest. A known wire is passed over and keeps its word; an unknown one that is
 // due is worked out from the values before, where the map says. One that is not due is passed over too: it must be one that would stay
-// unknown. The last unknown wire met is the lowest, due or not, so the set tells it.
+// unknown. Handed back is the set of known wires, grown or the same.
 fn round(
     sheet: &[u8],
     memory: &[u8],
@@ -54,14 +46,13 @@ fn round(
     before: Wires,
     due: Wires,
     words: &mut [u32; 80],
-) -> AfterRound
+) -> Wires
     requires { ⌜ Before (now sheet) (now memory) (inputWords (now words)) (now types) (now places) (now firsts)
         (before .bits) (due .bits) (now words) ⌝ }
     ensures { λ r. ⌜ ((b : Before (now (sheet .entry)) (now (memory .entry)) (inputWords (now (words .entry))) (now (types .entry))
         (now (places .entry)) (now (firsts .entry)) (before .bits) (due .bits) (now (words .entry)))
-        → Holds (length (now (types .entry))) (inputWords (now (words .entry))) (r .known .bits) (now (words .exit))
-        (roundOver (roundOf (b .running)) (b .values))
-        × (r .last ≡ lastUnknown (length (now (types .entry))) (b .values))) ⌝ }
+        → Holds (length (now (types .entry))) (inputWords (now (words .entry))) (r .bits) (now (words .exit))
+        (roundOver (roundOf (b .under .running)) (b .under .values))) ⌝ }
 {
     let mut grown = before;
     let mut left = due.minus(before);
@@ -75,8 +66,7 @@ fn round(
         left = left.without(w);
         end = left.end() as usize;
     }
-    let last = before.lowest_missing() as usize;
-    AfterRound { known: grown, last }
+    grown
 }
 
 // The rounds from all wires unknown to the first that changes nothing. In the first every wire is due, from then on those that read a
@@ -97,8 +87,7 @@ pub fn finish(
         → let given = run .running .given in
         Holds (length (now (types .entry))) (inputWords (now (words .entry))) (r .known .bits) (now (words .exit))
         (finished (given .sheet) (given .inputs) (given .memory))
-        × (r .rounds ≡ rounds (given .sheet) (given .inputs) (given .memory))
-        × (r .last ≡ lastUnknown (length (now (types .entry))) (finished (given .sheet) (given .inputs) (given .memory)))) ⌝ }
+        × (r .rounds ≡ rounds (given .sheet) (given .inputs) (given .memory))) ⌝ }
 {
     let mut readers = [0u64; 64];
     readers::gather(reads, types.len(), &mut readers);
@@ -106,14 +95,12 @@ pub fn finish(
     let mut due = Wires::first(types.len());
     let mut rounds = 0;
     loop {
-        let after = round(sheet, memory, types, places, firsts, known, due, words);
-        let grown = after.known;
+        let grown = round(sheet, memory, types, places, firsts, known, due, words);
         let made = rounds + 1;
         if grown.within(known) {
             return Finished {
                 known: grown,
                 rounds: made,
-                last: after.last,
             };
         }
         due = readers::of_any(&readers, grown.minus(known));

@@ -87,8 +87,8 @@ module _ {s : List ℕ} {wires at : ℕ} (run : WiresRead s wires at) where
 
   -- all of them
   pub all-drawn : {w next count : ℕ} {places firsts reads before cells : List ℕ} → wires ≤ w → 64 ≤ length before
-      → Drawing w next count places firsts reads before cells → Mapped run places firsts reads cells
-  all-drawn {w} {next} {count} {before = before} {cells = cells} over room d =
+      → 64 ≤ length reads → Drawing w next count places firsts reads before cells → Mapped run places firsts reads cells
+  all-drawn {w} {next} {count} {before = before} {cells = cells} over room setRoom d =
       let extent = run-extent (run .inputs) (run .types) s 16 (run .types) at 0 (run .reads) in
       let whole : take w (run .trees) ≡ run .trees = take-all w (run .trees) (omega (arith, run .sized, extent .sized)) in
       let noted = rw whole at (d .noted) in
@@ -98,7 +98,7 @@ module _ {s : List ℕ} {wires at : ℕ} (run : WiresRead s wires at) where
       rw (noted .placed, sets-eq (noted .entries) before 0 (omega arith))
       (take-at (noted .entries) (drop (0 + length (noted .entries)) before) (run .count) sized) in
       record {
-        sites = record { wire = λ v l. d .place v (omega arith); read = λ v l. d .read v (omega arith) };
+        sites = record { wire = λ v l. d .place v (omega arith); read = λ v l. d .read v (omega arith); room = setRoom };
         cell = rw kept (noted .noted);
       }
 

@@ -39,7 +39,7 @@ use Rattle.sheet_expressions.proofs.Steps.{own-refused, own-passed, by-
 leaf-operands : (k : ℕ) → k < 4 → countOf k ≡ 0
 leaf-operands k l = kinds-between (λ k. countOf k ≡ 0) {low = 0} (refl ▸ refl ▸ refl ▸ refl ▸ end) k (omega arith) l
 
-leaf-counted : (k : ℕ) → k < 4 → readCountOf k ≡ 0
+pub leaf-counted : (k : ℕ) → k < 4 → readCountOf k ≡ 0
 leaf-counted k l = kinds-between (λ k. readCountOf k ≡ 0) {low = 0} (refl ▸ refl ▸ refl ▸ refl ▸ end) k (omega arith) l
 
 leaf-forms : (k : ℕ) → k < 4 → (type : ValueType) (body : ℕ) (os : List Expression) → length os ≡ 0

@@ -89,10 +89,11 @@ pub record WiresLookup (types names : List ℕ) : Type 0 where
   pub inputs : List ℕ
   pub naming : Naming inputs types names
 
--- what holds of a map: each wire starts where it says and reads what it says
+-- what holds of a map: each wire starts where it says and reads what it says, in sets with room for 64 wires
 pub record Sited {s : List ℕ} {wires at : ℕ} (run : WiresRead s wires at) (places firsts reads : List ℕ) : Type 0 where
   pub wire : (w : ℕ) → w < wires → StartsAt run w (getD places w 0) (getD firsts w 0)
   pub read : EachHoldsJust reads wires (λ w. wiresRead (expressionAt (run .trees) w))
+  pub room : 64 ≤ length reads
 
 -- and each cell was noted
 pub record Mapped {s : List ℕ} {wires at : ℕ} (run : WiresRead s wires at) (places firsts reads cells : List ℕ) : Type 0 where

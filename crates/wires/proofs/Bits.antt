@@ -10,9 +10,9 @@ use lib.Dec.{eqb, ltb, eqb·suc-suc, eqb·zero-suc, eqb·suc-zero, lit<}
 use lib.Bits.{bitOr, bitAnd, or-shr, or-mod, or-lt, and-shr, and-mod, and-mask}
 use lib.Count.{ones, ones-cat, ones-ones, leadingZeros, leading-length, trailingZeros, under, trailing-le}
 use lib.Pow.{pow-pos, pow-mono, pow-lt, shr-shr, mod-pow-add}
-use borrow.Author.Tests.{eqb-true, eq-eqb, ne-eqb, ltb-true, ltb-false, not-false, not-true}
+use borrow.Author.Tests.{eqb-true, eq-eqb, ne-eqb, ltb-true, ltb-false}
 use Rattle.wires.specs.Laws.{none-in}
-use Rattle.wires.specs.Sets.{member, tally, LowestMissing, LowestPresent, EndsAt, TestsWithin}
+use Rattle.wires.specs.Sets.{member, tally, LowestPresent, EndsAt, TestsWithin}
 
 -- one digit further up is one digit of the half
 half : (n k : ℕ) → n / 2 ^ suc k ≡ n / 2 / 2 ^ k
@@ -204,18 +204,6 @@ lowest-present-is n h =
     go : 64 ≤ trailingZeros 64 n → (j : ℕ) (t : Bool) → ltb j 64 ≡ t → member n j ≡ false
     go none j true e = let l = ltb-true j 64 e in zeros-below 64 n j (omega arith)
     go none j false e = beyond n 64 j h (ltb-false j 64 e)
-
--- the lowest that is missing is the lowest that is present in the complement
-pub lowest-is : (n : ℕ) → n < 2 ^ 64 → LowestMissing (member n) 64 (trailingZeros 64 (2 ^ 64 - 1 - n))
-lowest-is n h =
-    record {
-      within = low .within;
-      below = λ j l. not-false (member n j) (sym (not-member 64 n j h (omega (arith, low .within))) ∙ low .below j l);
-      missing = λ l. not-true (member n (trailingZeros 64 (2 ^ 64 - 1 - n))) (sym (not-member 64 n _ h l) ∙ low .present l);
-    }
-  where
-    low : LowestPresent (member (2 ^ 64 - 1 - n)) 64 (trailingZeros 64 (2 ^ 64 - 1 - n))
-    low = lowest-present-is (2 ^ 64 - 1 - n) (omega arith)
 
 -- One more than the highest that is present is the number's length in digits.
 pub end-is : (n : ℕ) → n < 2 ^ 64 → EndsAt (member n) 64 (64 - leadingZeros 64 n)

@@ -30,9 +30,3 @@ pub record EndsAt (f : ℕ → Bool) (k r : ℕ) : Type 0 where
   pub within : r ≤ k
   pub above : (j : ℕ) → r ≤ j → f j ≡ false
   pub highest : (j : ℕ) → r ≡ suc j → f j ≡ true
-
--- r is the lowest number below k that is not in the set, or k where all are
-pub record LowestMissing (f : ℕ → Bool) (k r : ℕ) : Type 0 where
-  pub within : r ≤ k
-  pub below : (j : ℕ) → j < r → f j ≡ true
-  pub missing : r < k → f r ≡ false

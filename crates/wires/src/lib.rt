@@ -3,7 +3,7 @@ ghost use mathlib.Core.Path.{_≡_};
 ghost use Prim.Native.Nat.{ℕ, _≤_, _<_};
 ghost use mathlib.Core.Bool.{_&&_, _||_, not, false};
 ghost use lib.Dec.{eqb, ltb};
-ghost use Rattle.wires.specs.Sets.{member, tally, LowestMissing, LowestPresent, EndsAt, TestsWithin};
+ghost use Rattle.wires.specs.Sets.{member, tally, LowestPresent, EndsAt, TestsWithin};
 
 // A set of wires, each below 64.
 pub struct Wires {
@@ -103,12 +103,5 @@ impl Wires {
         ensures { λ r. ⌜ EndsAt (member (self .bits)) 64 r ⌝ }
     {
         64 - u64::leading_zeros(self.bits)
-    }
-
-    // The lowest wire that is not in the set, or 64 where all are.
-    pub fn lowest_missing(self) -> u32
-        ensures { λ r. ⌜ LowestMissing (member (self .bits)) 64 r ⌝ }
-    {
-        u64::trailing_zeros(!self.bits)
     }
 }

@@ -1,5 +1,5 @@
 /* The calls of careful C but the maker: the checks of memory, rows and schedule, and the instants. Rests on reading.c, values.c,
- * rounds.c and storing.c.
+ * rounds.c, waiting.c and storing.c.
  */
 #include "benchmark/careful/careful.h"
 #include "benchmark/careful/internal.h"
@@ -96,7 +96,7 @@ static uint32_t in_rounds(const uint8_t *sheet, size_t sheet_length, const uint8
     while (make_round(&instant, &rounds))
         continue;
     if (rounds.unknown != 0)
-        return refusal(20, (unsigned)__builtin_ctzll(rounds.unknown));
+        return refusal(20, lowest_waiting(&instant, rounds.unknown));
     finish(&instant, next_memory, output);
     return rounds.made;
 }

@@ -149,6 +149,21 @@ static inline const struct node *third_of(const struct node *node)
 uint32_t prepare(struct program *program, struct instant *instant, const uint8_t *sheet, size_t sheet_length, const uint8_t *memory,
                  size_t memory_length, const uint8_t *input, size_t input_length, size_t output_length);
 
+/* ---- loops.c ---- */
+
+static inline unsigned lowest_of(uint64_t wires)
+{
+    return (unsigned)__builtin_ctzll(wires);
+}
+
+/* The lowest of these wires that leads to itself in one or more steps, where each wire leads to those of its set. There must be one. */
+unsigned lowest_looping(const uint64_t *sets, uint64_t wires);
+
+/* ---- waiting.c ---- */
+
+/* The lowest wire that waits for itself, directly or through others; these are the unknown wires, of which there must be one. */
+unsigned lowest_waiting(const struct instant *instant, uint64_t unknown);
+
 /* ---- rounds.c ---- */
 
 /* Where the rounds of an instant are. */

@@ -1,5 +1,5 @@
 /* The maker of schedules of careful C. A wire that cannot be placed yet waits for one of the wires that it reads, and only when that one is
- * placed is it looked at again; the lowest of those that wait for nothing comes next. Rests on reading.c.
+ * placed is it looked at again; the lowest of those that wait for nothing comes next. Rests on reading.c and loops.c.
  */
 #include "benchmark/careful/careful.h"
 #include "benchmark/careful/internal.h"
@@ -13,11 +13,6 @@ struct queue {
     uint64_t placed;
     uint64_t ready; /* wait for nothing and are not placed */
 };
-
-static inline unsigned lowest_of(uint64_t wires)
-{
-    return (unsigned)__builtin_ctzll(wires);
-}
 
 static inline void make_wait(struct queue *queue, unsigned wire)
 {
@@ -43,26 +38,6 @@ static unsigned place_wires(struct queue *queue, uint8_t *list)
     return count;
 }
 
-static bool reaches_itself(const struct queue *queue, unsigned wire)
-{
-    uint64_t reached = 0;
-    uint64_t added = queue->reads[wire];
-    while (added != 0) {
-        reached |= added;
-        added = (added & (added - 1)) | (queue->reads[lowest_of(added)] & ~reached);
-    }
-    return (reached >> wire & 1) != 0;
-}
-
-/* Wires remain that could not be placed, so one of them reaches itself, and no other wire does. */
-static unsigned lowest_on_loop(const struct queue *queue)
-{
-    uint64_t left = ~queue->placed;
-    while (!reaches_itself(queue, lowest_of(left)))
-        left &= left - 1;
-    return lowest_of(left);
-}
-
 uint32_t careful_schedule(const uint8_t *sheet, size_t sheet_length, uint8_t *list, size_t list_length)
 {
     struct program program;
@@ -78,8 +53,9 @@ uint32_t careful_schedule(const uint8_t *sheet, size_t sheet_length, uint8_t *li
     memset(queue.waiting, 0, program.wires * sizeof queue.waiting[0]);
     for (unsigned wire = 0; wire < program.wires; wire++)
         make_wait(&queue, wire);
+    /* Where wires remain that could not be placed, one of them reaches itself, and no other wire does. */
     if (place_wires(&queue, made) != program.wires)
-        return refusal(21, lowest_on_loop(&queue));
+        return refusal(21, lowest_looping(queue.reads, ~queue.placed));
     memcpy(list, made, program.wires);
     return 0;
 }

@@ -5,7 +5,7 @@ use mathlib.Core.Logic.{⊎-elim}
 use native.Mathlib.Omega.{arith}
 use lib.ListN.{length, length-set}
 use borrow.Author.Needs.{needs}
-use Rattle.closure.proofs.Turns.{Turned, none-turned, turned-kept, turned-joined, all-turned}
+use Rattle.closure.proofs.Turns.{Turned, none-turned, turned-kept, turned-joined, all-turned, no-turn}
 use Rattle.closure.proofs.let_in.Statement.{statement}
 use Rattle.closure.proofs.let_in.Tie as tie
 
@@ -20,6 +20,9 @@ mul-own c = omega arith
 
 element-copy-out-own : tie.Need-element-copy-out-own Inv-loop μ-loop
 element-copy-out-own c = omega arith
+
+returns : tie.Need-returns Inv-loop μ-loop
+returns c = (no-turn (c .before .before .pre .0) refl (c .if1 .taken), refl)
 
 loop-holds : tie.Need-loop-holds Inv-loop μ-loop
 loop-holds c = (omega arith, refl, none-turned _ _ _)
@@ -53,17 +56,17 @@ loop-again c =
     let at = c .before .before .before .before .loop in
     let has = c .before .has .ensures in (
       omega arith,
-      ⊎-elim (λ w. rw (w .2, length-set) (at .inv .1)) (λ w. rw (w .1) (at .inv .1)) (c .if1 .came),
+      ⊎-elim (λ w. rw (w .2, length-set) (at .inv .1)) (λ w. rw (w .1) (at .inv .1)) (c .if2 .came),
       ⊎-elim
           (λ w. rw (w .2) (turned-joined _ _ _ (at .inv .2) (omega arith) (sym has ∙ w .0 .taken) _ (w .1 .ensures)))
           (λ w. rw (w .1) (turned-kept _ _ _ (at .inv .2) (sym has ∙ w .0 .left)))
-          (c .if1 .came),
+          (c .if2 .came),
     )
 
-returns : tie.Need-returns Inv-loop μ-loop
-returns c =
-    let inside = c .before .before .before .pre in
-    let all : c .before .loop .v ≡ c .before .before .before .args .count = omega (arith, c .before .loop .inv .0, c .loop-test .left) in
+returns-2 : tie.Need-returns-2 Inv-loop μ-loop
+returns-2 c =
+    let inside = c .before .before .before .before .pre in
+    let all : c .before .loop .v ≡ c .before .before .before .before .args .count = omega (arith, c .before .loop .inv .0, c .loop-test .left) in
     (all-turned _ _ _ (inside .0) refl (rw all at (c .before .loop .inv .2)), c .before .loop .inv .1)
 
 pub let-in-spec : {M : Type 1} → statement M
@@ -74,6 +77,7 @@ let-in-spec =
     μ-loop
     mul-own
     element-copy-out-own
+    returns
     loop-holds
     mul-bits
     element-copy-out-bits
@@ -84,4 +88,4 @@ let-in-spec =
     add-v
     loop-less
     loop-again
-    returns)
+    returns-2)

@@ -12,13 +12,13 @@ use Rattle.closure.proofs.lowest_loop.Statement.{statement}
 use Rattle.closure.proofs.lowest_loop.Tie as tie
 
 abbrev Inv-loop : tie.InvT-loop
-Inv-loop relation count rows w₀ w = (w ≤ count) × ((v : ℕ) → v < w → member (getD rows v 0) v ≡ false)
+Inv-loop rows count w₀ w = (w ≤ count) × ((v : ℕ) → v < w → member (getD rows v 0) v ≡ false)
 
 abbrev μ-loop : tie.MeasureT-loop
-μ-loop relation count rows w₀ w = count - w
+μ-loop rows count w₀ w = count - w
 
-closed-requires : tie.Need-closed-requires Inv-loop μ-loop
-closed-requires c κs = search needs
+close-requires : tie.Need-close-requires Inv-loop μ-loop
+close-requires c κs = search needs
 
 loop-holds : tie.Need-loop-holds Inv-loop μ-loop
 loop-holds c = (omega arith, λ v l. absurd (omega arith))
@@ -26,16 +26,16 @@ loop-holds c = (omega arith, λ v l. absurd (omega arith))
 mul-bits : tie.Need-mul-bits Inv-loop μ-loop
 mul-bits c = omega arith
 
-array-read-bits : tie.Need-array-read-bits Inv-loop μ-loop
-array-read-bits c = omega arith
+element-copy-out-bits : tie.Need-element-copy-out-bits Inv-loop μ-loop
+element-copy-out-bits c = omega arith
 
 has-requires : tie.Need-has-requires Inv-loop μ-loop
 has-requires c κs = omega arith
 
 returns : tie.Need-returns Inv-loop μ-loop
 returns c test relates =
-    let at = c .before .before .before .loop in
-    loop-found test (at .w) (c .before .before .before .before .closed .ensures test relates) (at .inv .0) (at .inv .1)
+    let at = c .before .before .before .before .loop in
+    loop-found test (at .w) (c .before .before .before .before .before .close .ensures test relates) (at .inv .0) (at .inv .1)
     (λ l. sym (c .before .has .ensures) ∙ c .if1 .taken)
 
 add-w : tie.Need-add-w Inv-loop μ-loop
@@ -46,13 +46,13 @@ loop-less c = omega arith
 
 loop-again : tie.Need-loop-again Inv-loop μ-loop
 loop-again c =
-    let at = c .before .before .before .loop in
+    let at = c .before .before .before .before .loop in
     (omega arith, below-more _ (at .w) (at .inv .1) (sym (c .before .has .ensures) ∙ c .if1 .left))
 
 returns-2 : tie.Need-returns-2 Inv-loop μ-loop
 returns-2 c test relates =
     let at = c .before .loop in
-    loop-found test (at .w) (c .before .before .closed .ensures test relates) (at .inv .0) (at .inv .1) (λ l. absurd (omega arith))
+    loop-found test (at .w) (c .before .before .close .ensures test relates) (at .inv .0) (at .inv .1) (λ l. absurd (omega arith))
 
 pub lowest-loop-spec : {M : Type 1} → statement M
 lowest-loop-spec =
@@ -60,10 +60,10 @@ lowest-loop-spec =
     (tie.spec
     Inv-loop
     μ-loop
-    closed-requires
+    close-requires
     loop-holds
     mul-bits
-    array-read-bits
+    element-copy-out-bits
     has-requires
     returns
     add-w

@@ -12,7 +12,7 @@ use Rattle.kernel.specs.Calls.{Given}
 use Rattle.kernel.specs.Laws.Memory.{finished-typed}
 use Rattle.kernel.specs.Laws.Demands.{givenFinished}
 use Rattle.leaves.specs.Words.{inputWords}
-use Rattle.rounds.specs.Running.{Holds}
+use Rattle.rounds.specs.Running.{Holds, RunningUnder}
 use Rattle.rounds.specs.Settled.{Settled}
 use Rattle.rounds.specs.Outputs.{Below, wordsOf, output-words}
 use Rattle.given.specs.Grants.{Granted}
@@ -28,18 +28,19 @@ module _ {s memory input output places firsts reads start types outputs : List �
   abbrev pub FullFinished : Type 0
   FullFinished = Full (length types) (givenFinished given)
 
-  abbrev pub settled : {bits : ℕ} {words : List ℕ} → HoldsFinished bits words → FullFinished → Settled s memory types places firsts words
-  settled {bits} h full =
+  abbrev pub under-finished : {bits : ℕ} {words : List ℕ} → HoldsFinished bits words
+      → RunningUnder s memory (inputWords start) types places firsts bits words
+  under-finished h =
       let r = g .running in
       record {
-        row = inputWords start;
         running = r;
-        bits = bits;
         values = givenFinished given;
         holds = h;
-        full = full;
         typed = finished-typed (given .sheet) (given .inputs) (given .memory) (r .wellTyped) (r .validInputs) (r .validMemory);
       }
+
+  abbrev pub settled : {bits : ℕ} {words : List ℕ} → HoldsFinished bits words → FullFinished → Settled s memory types places firsts words
+  settled {bits} h full = record { row = inputWords start; bits = bits; under = under-finished h; full = full }
 
   -- each output is one of 64 wires, and the row has room for each
   pub row-fits : Below 64 outputs × (length output ≡ 4 * length outputs)

@@ -1,14 +1,11 @@
 -- `show` meets its contract, by either way past the test whether all wires are known.
-use mathlib.Core.Logic.{⊎-elim}
-use mathlib.Core.Path.{sym, ap, _∙_}
+use Prim.Native.Nat.{ℕ}
 use native.Mathlib.Omega.{arith}
-use lib.ListN.{length}
 use borrow.Author.Needs.{needs}
-use borrow.Author.Tests.{eqb-true, eqb-false}
 use Rattle.given.specs.Grants.{grantedReads, Parts}
 use Rattle.given.specs.Laws.Answers.{grants-refused}
 use Rattle.given.specs.Laws.Finished.{row-fits}
-use Rattle.in_rounds.proofs.Showing.{given-refused, unknown-shown, finished-shown}
+use Rattle.in_rounds.proofs.Showing.{given-refused, loop-asked, unknown-shown, finished-shown}
 use Rattle.in_rounds.proofs.show.Statement.{statement}
 use Rattle.in_rounds.proofs.show.Tie as tie
 
@@ -20,6 +17,9 @@ parts-of : (c : tie.After-known-told2)
     Parts (a .sheet .now) (a .memory .now) (a .input .now) (a .output .now) (last .1 .1 .1 .1 .0) (last .1 .1 .1 .1 .1 .0)
     (last .1 .1 .1 .1 .1 .1 .0) (last .1 .1 .1 .1 .1 .1 .1 .0) (n .0) (n .1 .0) (n .1 .1 .0) (n .1 .1 .1 .0)
 parts-of c = c .before .before .before .given-of .ensures .passed _ _ _ _ (c .before .types-from .given .1)
+
+abbrev types-of : tie.After-known-told2 → ℕ × ℕ
+types-of c = let n = c .before .types-from .given .0 in (n .0, n .1 .0)
 
 -- where these are known, from the rounds
 abbrev told : tie.After-finish → tie.After-known-told2
@@ -50,46 +50,61 @@ finish-requires c κs =
 count-requires : tie.Need-count-requires
 count-requires c κs = search needs
 
-cast-full : tie.Need-cast-full
-cast-full c = search needs
+cast-if1 : tie.Need-cast-if1
+cast-if1 c = search needs
 
 sub-write-row : tie.Need-sub-write-row
-sub-write-row c = parts-of (told (c .before .before .before)) .outputs .0
+sub-write-row c = let parts = parts-of (told (c .before .before .before)) .outputs in omega (arith, parts .0, parts .1)
 
 part-write-row-start : tie.Need-part-write-row-start
-part-write-row-start c = parts-of (told (c .before .before .before)) .outputs .0
+part-write-row-start c = let parts = parts-of (told (c .before .before .before)) .outputs in omega (arith, parts .0, parts .1)
 
 part-write-row-end : tie.Need-part-write-row-end
-part-write-row-end c = parts-of (told (c .before .before .before)) .outputs .1
+part-write-row-end c = let parts = parts-of (told (c .before .before .before)) .outputs in omega (arith, parts .0, parts .1)
 
 write-row-requires : tie.Need-write-row-requires
 write-row-requires c κs = row-fits (parts-of (told (c .before .before .before .before .before .before)) .granted)
-
-answered-requires : tie.Need-answered-requires
-answered-requires c κs = search needs
 
 same-length : tie.Need-same-length
 same-length c = search needs
 
 returns : tie.Need-returns
 returns c =
-    given-refused _ _ _ _ _ _ _ (grants-refused (c .before .before .before .given-of .ensures) (c .before .why .given .1))
+    let wrote = c .before .before in
+    let test = wrote .before .before .before .before in
+    let solved = test .before .before .before in
+    let parts = parts-of (told solved) in
+    let (h, made) = solved .finish .ensures (grantedReads (parts .granted)) in
+    let (from, to) = types-of (told solved) in
+    finished-shown from to (parts .granted) h (omega (arith, test .before .count .ensures, test .if1 .taken)) made (parts .types)
+    (wrote .write-row .ensures)
+
+lowest-waiting-requires : tie.Need-lowest-waiting-requires
+lowest-waiting-requires c κs =
+    let solved = c .before .before .before .before .before .before .before in
+    let parts = parts-of (told solved) in
+    let (from, to) = types-of (told solved) in
+    let g = parts .granted in
+    (loop-asked from to g (solved .finish .ensures (grantedReads g) .0), g .setRoom)
 
 same-length-2 : tie.Need-same-length-2
-same-length-2 c = ⊎-elim (λ w. ap length (w .7) ∙ w .4 .kept .1 .1 .0) (λ w. ap length (w .1)) (c .before .if1 .came)
+same-length-2 c = search needs
 
 returns-2 : tie.Need-returns-2
 returns-2 c =
-    let solved = c .before .before .before .before in
+    given-refused _ _ _ _ _ _ _ (grants-refused (c .before .before .before .given-of .ensures) (c .before .why .given .1))
+
+same-length-3 : tie.Need-same-length-3
+same-length-3 c = search needs
+
+returns-3 : tie.Need-returns-3
+returns-3 c =
+    let test = c .before .before .before .before .before in
+    let solved = test .before .before .before in
     let parts = parts-of (told solved) in
-    let g = parts .granted in
-    let (h, made, named) = solved .finish .ensures (grantedReads g) in
-    let counted = c .before .before .count .ensures in
-    ⊎-elim
-    (λ w. finished-shown _ _ _ _ _ g h (c .answered .ensures) (w .0 .taken) (sym counted ∙ eqb-true _ _ (w .0 .taken)) made (parts .types)
-    (w .7 ∙ w .4 .ensures))
-    (λ w. unknown-shown _ _ _ _ _ g h (c .answered .ensures) (w .0 .left) (λ e. eqb-false _ _ (w .0 .left) (counted ∙ e)) named (w .1))
-    (c .before .if1 .came)
+    let (from, to) = types-of (told solved) in
+    unknown-shown from to (parts .granted) (solved .finish .ensures (grantedReads (parts .granted)) .0)
+    (λ e. test .if1 .left (omega (arith, test .before .count .ensures))) (c .lowest-waiting .ensures)
 
 pub show-spec : {M : Type 1} → statement M
 show-spec =
@@ -103,13 +118,15 @@ show-spec =
     part-types-end
     finish-requires
     count-requires
-    cast-full
+    cast-if1
     sub-write-row
     part-write-row-start
     part-write-row-end
     write-row-requires
-    answered-requires
     same-length
     returns
+    lowest-waiting-requires
     same-length-2
-    returns-2)
+    returns-2
+    same-length-3
+    returns-3)

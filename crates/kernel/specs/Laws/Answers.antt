@@ -1,26 +1,32 @@
 -- What the answers of the two instants say, on any bytes: demand 2 as the order has it, from the answer of the call; the numbers that
 -- each call refuses with; and that the scheduled instant never answers 20.
-use mathlib.Core.Path.{_≡_, refl}
-use mathlib.Core.Logic.{_⊎_, inl, inr}
+use mathlib.Core.Path.{_≡_, refl, sym, ap, subst, _∙_}
+use mathlib.Core.Logic.{_⊎_, inl, inr, _↔_}
 use Prim.Native.Nat.{ℕ, suc, _≤_, _<_}
 use native.Mathlib.Omega.{arith}
 use mathlib.Core.List.{List}
 use Rattle.sheet.specs.Outcomes.{Outcome, refusal, result, followedBy, lowest, numberOf}
 use Rattle.sheet.specs.Memory.{memoryBytes}
 use Rattle.sheet.specs.Rows.{rowBytes}
+use Rattle.sheet.specs.Laws.Outcomes.{same-result}
 use Rattle.sheet.specs.Laws.Refusals.{Within, OutcomeWithin, refusal-within, result-within}
+use Rattle.sheet.specs.Laws.Typing.{checked-well-typed}
 use Rattle.sheet.specs.declared.Refusal.{Refusal}
 use Rattle.sheet.specs.declared.Refusal.the-variants.{StaysUnknown}
-use Rattle.kernel.specs.Values.{IsKnown}
+use Rattle.closure.specs.Closures.{Closure, LowestLoop}
 use Rattle.kernel.specs.Order.{valueAt}
 use Rattle.kernel.specs.Systems as System
 use Rattle.kernel.specs.Systems.{Full, Solution, LeastSolution, after}
 use Rattle.kernel.specs.Instants.{wireCount, rounds, finished, nextMemory, outputRow}
-use Rattle.kernel.specs.Calls.{Given, givenOf, Accepted, inRounds, roundsAnswer, scheduledAnswer, roundsCall, scheduledCall, Packable}
+use Rattle.kernel.specs.Waits.{WorkedOutFrom, WaitsFor, WaitsOn}
+use Rattle.kernel.specs.Calls.{Given, givenOf, placeOfLoop, Accepted, inRounds, roundsAnswer, scheduledAnswer}
+use Rattle.kernel.specs.Calls.{roundsCall, scheduledCall, Packable}
 use Rattle.sheet.specs.Laws.Lists.{never}
-use Rattle.kernel.specs.Laws.Rounds.{FirstUnchanged, rounds-first}
+use Rattle.kernel.specs.Laws.Rounds.{FirstUnchanged, rounds-first, least-same}
 use Rattle.kernel.specs.Laws.Instants.{round-monotone}
-use Rattle.kernel.specs.Laws.Demands.{givesOf, RefusedAt, accepted-or-refused, givenRound, givenFinished, givenRounds}
+use Rattle.kernel.specs.Laws.Given.{given-by}
+use Rattle.kernel.specs.Laws.Waiting.{WaitingAt, some-waits-finally, loop-unknown, loop-waits}
+use Rattle.kernel.specs.Laws.Demands.{givesOf, SomeUnknown, full-or-unknown, givenUnder, givenRound, givenFinished, givenRounds}
 use Rattle.kernel.specs.Laws.Demands.{demand2, least-finished}
 use Rattle.kernel.specs.Laws.Refusals.{given-within, few-wires, scheduled-within}
 use Rattle.kernel.specs.declared.Value.{Value}
@@ -46,15 +52,19 @@ module _ (s memory input output : List ℕ) where
     pub reaches : after (wireCount (given .sheet)) (givenRound given) r ≡ values
     pub few : r ≤ suc (wireCount (given .sheet))
 
-  -- an instant in rounds that is refused 20 at p: 1 to 16 are passed, and p is the lowest wire that the least solution leaves unknown
+  -- an instant in rounds that is refused 20 at p: 1 to 16 are passed, the least solution leaves p unknown, and p is the lowest wire that
+  -- waits for itself under it, directly or through others; a wire that is so worked out from itself is unknown, and waits for itself
   pub record UnknownAt (p : ℕ) : Type 0 where
     pub given : Given
     pub passes : givenOf s memory input output ≡ result given
     pub values : List Value
     pub least : LeastSolution (givenRound given) values
-    pub wire : p < wireCount (given .sheet)
     pub unknown : valueAt values p ≡ Unknown
-    pub lower : (w : ℕ) → w < p → IsKnown (valueAt values w)
+    pub lowest : LowestLoop (WaitsFor (givenUnder given values) (given .sheet .expressions)) (wireCount (given .sheet)) p
+    pub loopUnknown : (w : ℕ) → Closure (WorkedOutFrom (givenUnder given values) (given .sheet .expressions)) w w
+        → valueAt values w ≡ Unknown
+    pub loopWaits : (w : ℕ) → Closure (WorkedOutFrom (givenUnder given values) (given .sheet .expressions)) w w
+        → WaitsOn (givenUnder given values) (given .sheet .expressions) w w
 
   -- an instant in rounds that is refused otherwise: with the first of the refusals 1 to 16
   pub record RefusedBefore (why : Refusal) (p : ℕ) : Type 0 where
@@ -70,8 +80,8 @@ module _ (s memory input output : List ℕ) where
   -- the three ways in which the instant in rounds comes to its outcome
   data Comes : Outcome Accepted → Type 0 where
     before : {why : Refusal} {p : ℕ} → givenOf s memory input output ≡ refusal why p → Comes (refusal why p)
-    left : {p : ℕ} (given : Given) → givenOf s memory input output ≡ result given
-        → RefusedAt given (givenRounds given) (givenFinished given) p → Comes (refusal StaysUnknown p)
+    left : (given : Given) → givenOf s memory input output ≡ result given → SomeUnknown (wireCount (given .sheet)) (givenFinished given)
+        → Comes (refusal StaysUnknown (placeOfLoop given (givenFinished given)))
     solved : (given : Given) → givenOf s memory input output ≡ result given → Full (wireCount (given .sheet)) (givenFinished given)
         → Comes (result (givesOf given (givenRounds given) (givenFinished given)))
 
@@ -81,12 +91,20 @@ module _ (s memory input output : List ℕ) where
     where
       go : (x : Outcome Given) → givenOf s memory input output ≡ x → Comes (followedBy x inRounds)
       go (refusal why p) e = before e
-      go (result given) e = by (accepted-or-refused given (givenRounds given) (givenFinished given))
+      go (result given) e = by (full-or-unknown (wireCount (given .sheet)) (givenFinished given))
         where
-          by : (Full (wireCount (given .sheet)) (givenFinished given))
-              ⊎ ((place : ℕ) × RefusedAt given (givenRounds given) (givenFinished given) place) → Comes (inRounds given)
+          by : Full (wireCount (given .sheet)) (givenFinished given) ⊎ SomeUnknown (wireCount (given .sheet)) (givenFinished given)
+              → Comes (inRounds given)
           by (inl full) = rw (demand2 given .accepted full) (solved given e full)
-          by (inr (p, at)) = rw (at .outcome) (left given e at)
+          by (inr at) = rw (demand2 given .refused (at .wire) (at .inRange) (at .unknown)) (left given e at)
+
+  -- the place of 20 is the lowest wire that waits for itself
+  waiting-at : (given : Given) → givenOf s memory input output ≡ result given → SomeUnknown (wireCount (given .sheet)) (givenFinished given)
+      → WaitingAt (givenUnder given (givenFinished given)) (given .sheet .expressions) (placeOfLoop given (givenFinished given))
+  unfolding placeOfLoop
+  waiting-at given e at =
+      let typed = checked-well-typed s (given .sheet) (given-by s memory input output given e .sheet) in
+      some-waits-finally (given .sheet) (given .inputs) (given .memory) typed (at .wire) (at .inRange) (at .unknown)
 
   pub demand2-answered : Demand2Answered
   unfolding roundsCall rounds finished System.finished
@@ -122,16 +140,18 @@ module _ (s memory input output : List ℕ) where
         where
           beyond : OutcomeWithin {A = Given} 16 (refusal StaysUnknown place) → ⊥
           beyond (refusal-within w) = omega (arith, w .number)
-      unknown p _ q (left {p = place} given e at) a =
-          let place-is : place ≡ p = cc in
+      unknown p _ q (left given e at) a =
+          let place-is : placeOfLoop given (givenFinished given) ≡ p = cc in
+          let there = waiting-at given e at in
           record {
             given = given;
             passes = e;
             values = givenFinished given;
             least = least-finished given;
-            wire = rw place-is at (at .inRange);
-            unknown = rw place-is at (at .unknown);
-            lower = rw place-is at (at .lowest);
+            unknown = rw place-is at (there .unknown);
+            lowest = rw place-is at (there .lowest);
+            loopUnknown = loop-unknown (given .sheet) (given .inputs) (given .memory);
+            loopWaits = loop-waits (given .sheet) (given .inputs) (given .memory);
           }
       unknown p _ q (solved given e full) a = never (cc)
 
@@ -146,6 +166,47 @@ module _ (s memory input output : List ℕ) where
           within (refusal-within w) = w .number
       refused why p _ (left given e at) a = inl (cc)
       refused why p _ (solved given e full) a = never (cc)
+
+  -- where 1 to 16 are passed, 20 comes exactly if the least solution leaves a wire unknown
+  pub unknown-exactly : (given : Given) → givenOf s memory input output ≡ result given
+      → (values : List Value) → LeastSolution (givenRound given) values
+      → ((p : ℕ) × (roundsCall s memory input output .answer ≡ RefusedInRounds StaysUnknown p))
+      ↔ SomeUnknown (wireCount (given .sheet)) values
+  unfolding roundsCall finished
+  unknown-exactly given passes values least = (forth, back)
+    where
+      monotone : System.Monotone (wireCount (given .sheet)) (givenRound given)
+      monotone = round-monotone (given .sheet) (given .inputs) (given .memory)
+
+      is-finished : values ≡ givenFinished given
+      is-finished = least-same (wireCount (given .sheet)) (givenRound given) monotone least
+
+      forth : ((p : ℕ) × (roundsCall s memory input output .answer ≡ RefusedInRounds StaysUnknown p))
+          → SomeUnknown (wireCount (given .sheet)) values
+      forth (p, a) =
+          let u = demand2-answered .unknown p a in
+          let same : u .given ≡ given = same-result (sym (u .passes) ∙ passes) in
+          let there = least-same _ (givenRound given) monotone (subst (λ g. LeastSolution (givenRound g) (u .values)) same (u .least)) in
+          let inside : p < wireCount (given .sheet) = subst (λ (g : Given). p < wireCount (g .sheet)) same (u .lowest .inRange) in
+          record {
+            wire = p;
+            inRange = inside;
+            unknown = ap (λ (xs : List Value). valueAt xs p) (is-finished ∙ sym there) ∙ u .unknown;
+          }
+
+      back : SomeUnknown (wireCount (given .sheet)) values
+          → (p : ℕ) × (roundsCall s memory input output .answer ≡ RefusedInRounds StaysUnknown p)
+      back some =
+          let unknown : valueAt (givenFinished given) (some .wire) ≡ Unknown =
+          ap (λ (xs : List Value). valueAt xs (some .wire)) (sym is-finished) ∙ some .unknown in
+          (placeOfLoop given (givenFinished given), rw (passes, demand2 given .refused (some .wire) (some .inRange) unknown))
+
+  -- so where it does, the call names the lowest wire that waits for itself: one always exists
+  pub loop-named : (given : Given) → givenOf s memory input output ≡ result given
+      → (values : List Value) → LeastSolution (givenRound given) values → SomeUnknown (wireCount (given .sheet)) values
+      → (p : ℕ) × (roundsCall s memory input output .answer ≡ RefusedInRounds StaysUnknown p) × UnknownAt p
+  loop-named given passes values least some =
+      let (p, a) = unknown-exactly given passes values least .1 some in (p, a, demand2-answered .unknown p a)
 
   -- the instant in rounds refuses with 1 to 16 and 20
   pub rounds-refusals : {why : Refusal} {place : ℕ} → roundsCall s memory input output .answer ≡ RefusedInRounds why place
@@ -165,9 +226,9 @@ module _ (s memory input output : List ℕ) where
           let place-is : at ≡ place = cc in
           let w = ranged (given-within s memory input output) (rw (why-is, place-is) at e) in
           (inl (w .number), w .bounded)
-      go _ (left {p = at} given e refused) a =
-          let place-is : at ≡ place = cc in
-          (inr (cc), omega (arith, refused .inRange, few-wires s memory input output given e))
+      go _ (left given e at) a =
+          let place-is : placeOfLoop given (givenFinished given) ≡ place = cc in
+          (inr (cc), omega (arith, waiting-at given e at .lowest .inRange, few-wires s memory input output given e))
       go _ (solved given e full) a = never (cc)
 
   -- an accepted instant in rounds reports at most 65

@@ -19,20 +19,21 @@ use Rattle.sheet.specs.Rows.{rowBytes, wrongAt, dataFrom, inputsOf}
 use Rattle.sheet.specs.Laws.Outcomes.{same-result}
 use Rattle.sheet.specs.declared.Datum.the-variants.{Boolean, Number}
 use Rattle.sheet.specs.declared.Refusal.{Refusal}
+use Rattle.closure.specs.Closures.{through, lowestLoop}
 use Rattle.kernel.specs.Order.{valueAt}
-use Rattle.kernel.specs.Values.{IsKnown, known}
 use Rattle.kernel.specs.Equality.{sameDatum, sameValue, sameValues}
 use Rattle.sheet.specs.Lists.{among, allAmong}
 use Rattle.sheet.specs.Reads.{wiresRead}
 use Rattle.kernel.specs.Instant.{value, kept, stored}
+use Rattle.kernel.specs.Waits.{wiresAwaited, waitsFor, lowestWaiting}
 use Rattle.kernel.specs.Systems as System
 use Rattle.kernel.specs.Systems.{Full}
 use Rattle.kernel.specs.Instants.{readsAt, valueOfWire, values, storedCells, round, rounds, finished, nextMemory, outputRow}
 use Rattle.kernel.specs.Schedules.{entryAt, notNew, tooEarly, scheduleOf, passFrom, pass}
-use Rattle.kernel.specs.Calls.{Given, givenOf, placeOfUnknown, acceptedOf, inRounds, scheduled, scheduledAnswer}
+use Rattle.kernel.specs.Calls.{Given, givenOf, anyUnknown, placeOfLoop, acceptedOf, inRounds, scheduled, scheduledAnswer}
 use Rattle.kernel.specs.Calls.{roundsCall, scheduledCall}
 use Rattle.kernel.specs.Cases.{sameBytes, all, agrees, holdsFrom, holds, crossedSheet, table}
-use Rattle.sheet.specs.Laws.Lists.{never}
+use Rattle.kernel.specs.Laws.Order.{not-known}
 use Rattle.kernel.specs.Laws.Given.{given-by}
 use Rattle.kernel.specs.Laws.Schedules.{Passed, schedule-passed, pass-full-of, pass-finished}
 use Rattle.kernel.specs.declared.Value.{Value}
@@ -47,7 +48,8 @@ unfolding settled equals cellForms cellCount meaningOf operandsOf lowest
     sameDatum sameValue sameValues among allAmong wiresRead value kept stored
     System.after System.unchanged System.rounds System.finished
     readsAt valueOfWire values storedCells round rounds finished nextMemory outputRow
-    notNew tooEarly scheduleOf passFrom pass givenOf placeOfUnknown acceptedOf inRounds scheduled roundsCall scheduledCall
+    through lowestLoop wiresAwaited waitsFor lowestWaiting
+    notNew tooEarly scheduleOf passFrom pass givenOf anyUnknown placeOfLoop acceptedOf inRounds scheduled roundsCall scheduledCall
     sameBytes all agrees holdsFrom holds table
 table-holds = refl
 
@@ -86,9 +88,6 @@ unfolding settled equals lowest sameDatum sameValue sameValues cellCount value
     System.after System.unchanged System.rounds System.finished values round finished
 crossed-unknown = refl
 
-unknown-differs : {v : Value} → IsKnown v → v ≡ Unknown → _≡_ {A = ℕ} 0 1
-unknown-differs known e = cc
-
 crossed-no-schedule : (list : List ℕ) → Passed (crossed present) list → ⊥
 unfolding Full tooEarly
 crossed-no-schedule list here =
@@ -100,7 +99,7 @@ crossed-no-schedule list here =
     let inputs = Boolean true ∷ Number (pos 5) ∷ [] in
     let values = pass-finished (crossed conditional) inputs [] list there in
     let known = pass-full-of (crossed conditional) inputs [] list there 0 (omega arith) in
-    never (unknown-differs known (ap (λ (xs : List Value). valueAt xs 0) values ∙ crossed-unknown))
+    not-known known (ap (λ (xs : List Value). valueAt xs 0) values ∙ crossed-unknown)
 
 -- whatever list the scheduled instant is given, and on whatever buffers, it is refused
 pub record IsRefused (answer : Scheduled) : Type 0 where
@@ -125,8 +124,7 @@ crossed-refused memory row output list = go (givenOf (crossedSheet 13) memory ro
         along given (same-result (sym (given-by (crossedSheet 13) memory row output given e .sheet) ∙ crossed-read))
         (scheduleOf (given .sheet) list) refl
 
--- K4's round over false values: wire 0 is wire 1, wire 1 is 5 and wire 2 is wire 2; wire 0 is given as 7, and comes back as 7. The walk
--- from wire 2 down meets wires 2 and 1 as unknown, wire 1 last.
+-- K4's round over false values: wire 0 is wire 1, wire 1 is 5 and wire 2 is wire 2; wire 0 is given as 7, and comes back as 7
 abbrev copied : Sheet
 copied = record {
   inputTypes = [];
@@ -138,7 +136,6 @@ copied = record {
 abbrev falsely : List Value
 falsely = Known (Number (pos 7)) ∷ Unknown ∷ Unknown ∷ []
 
-pub false-kept : (System.roundOver (round copied [] []) falsely ≡ Known (Number (pos 7)) ∷ Known (Number (pos 5)) ∷ Unknown ∷ [])
-    × (System.lastUnknown 3 falsely ≡ 1)
-unfolding System.roundOver System.renewed System.lastMet round values value cellCount
-false-kept = (refl, refl)
+pub false-kept : System.roundOver (round copied [] []) falsely ≡ Known (Number (pos 7)) ∷ Known (Number (pos 5)) ∷ Unknown ∷ []
+unfolding System.roundOver System.renewed round values value cellCount
+false-kept = refl

@@ -2,7 +2,6 @@
 -- it is not; and along any schedule the same answer, outputs and next memory as in rounds, whatever the output rows held.
 use mathlib.Core.Path.{_≡_, refl, subst}
 use Prim.Native.Nat.{ℕ, suc, _≤_, _<_}
-use native.Mathlib.Omega.{arith}
 use mathlib.Core.Bool.{Bool, true, false}
 use mathlib.Core.List.{List}
 use mathlib.Core.Logic.{_⊎_, inl, inr}
@@ -11,16 +10,17 @@ use borrow.Author.Tests.{lt-ltb, ltb-true}
 use Rattle.sheet.specs.Outcomes.{refusal, result, followedBy, lowest}
 use Rattle.sheet.specs.Memory.{memoryBytes}
 use Rattle.sheet.specs.Rows.{rowBytes}
-use Rattle.sheet.specs.Laws.Lowest.{lowest-passes, lowest-first, lowest-below, lowest-found, lowest-none, none-lowest}
+use Rattle.sheet.specs.Laws.Lowest.{lowest-below, lowest-found, lowest-none, none-lowest}
 use Rattle.sheet.specs.declared.Refusal.the-variants.{StaysUnknown}
 use Rattle.kernel.specs.Values.{isUnknown, IsKnown, known}
 use Rattle.kernel.specs.Order.{_⊑*_, valueAt}
 use Rattle.kernel.specs.Systems.{Full, Solution, LeastSolution}
+use Rattle.kernel.specs.Instant.{Environment, under}
 use Rattle.kernel.specs.Instants.{wireCount, round, rounds, finished, nextMemory, outputRow}
 use Rattle.kernel.specs.Schedules.{IsSchedule, pass}
-use Rattle.kernel.specs.Calls.{Given, givenOf, placeOfUnknown, Accepted, acceptedOf, inRounds, scheduled, roundsCall, scheduledCall}
+use Rattle.kernel.specs.Calls.{Given, givenOf, anyUnknown, placeOfLoop, Accepted, acceptedOf, inRounds, scheduled, roundsCall, scheduledCall}
 use Rattle.sheet.specs.Laws.Lists.{never}
-use Rattle.kernel.specs.Laws.Order.{known-not}
+use Rattle.kernel.specs.Laws.Order.{known-not, unknown-is}
 use Rattle.kernel.specs.Laws.Given.{given-same}
 use Rattle.kernel.specs.Laws.Solutions.{finished-solution, finished-least, only-solution, rounds-bound}
 use Rattle.kernel.specs.Laws.Schedules.{schedule-passes, passes-schedule, pass-full-of, pass-finished}
@@ -28,10 +28,6 @@ use Rattle.kernel.specs.declared.Value.{Value}
 use Rattle.kernel.specs.declared.Value.the-variants.{Unknown, Known}
 use Rattle.kernel.specs.declared.InRounds.the-variants.{Accepted as AcceptedInRounds}
 use Rattle.kernel.specs.declared.Scheduled.the-variants.{Accepted as AcceptedScheduled}
-
-unknown-is : (v : Value) → isUnknown v ≡ true → v ≡ Unknown
-unknown-is Unknown e = refl
-unknown-is (Known d) e = never (cc)
 
 not-unknown : (v : Value) → isUnknown v ≡ false → IsKnown v
 not-unknown Unknown e = never (cc)
@@ -48,53 +44,45 @@ givesOf given rounds wires =
 
 module _ (given : Given) (count : ℕ) (wires : List Value) where
   pub accepts-full : Full (wireCount (given .sheet)) wires → acceptedOf given count wires ≡ result (givesOf given count wires)
-  unfolding acceptedOf placeOfUnknown Full
+  unfolding acceptedOf anyUnknown Full
   accepts-full full =
       rw (none-lowest (λ w. isUnknown (valueAt wires w)) (wireCount (given .sheet)) (λ w l. known-not (full w l)))
 
-  -- the place of 20 is the lowest wire that is unknown
-  pub record RefusedAt (place : ℕ) : Type 0 where
-    pub outcome : acceptedOf given count wires ≡ refusal StaysUnknown place
-    pub inRange : place < wireCount (given .sheet)
-    pub unknown : valueAt wires place ≡ Unknown
-    pub lowest : (w : ℕ) → w < place → IsKnown (valueAt wires w)
-
   pub refuses-unknown : (w : ℕ) → w < wireCount (given .sheet) → valueAt wires w ≡ Unknown
-      → RefusedAt (placeOfUnknown (wireCount (given .sheet)) wires)
-  unfolding acceptedOf placeOfUnknown
+      → acceptedOf given count wires ≡ refusal StaysUnknown (placeOfLoop given wires)
+  unfolding acceptedOf anyUnknown
   refuses-unknown w l e =
       let n = wireCount (given .sheet) in
       let test : ℕ → Bool = λ x. isUnknown (valueAt wires x) in
       let found : test w ≡ true = rw e in
-      let below = lowest-below test n w l found in
-      record {
-        outcome = rw (lt-ltb (lowest test n) n below);
-        inRange = below;
-        unknown = unknown-is (valueAt wires (lowest test n)) (lowest-passes test n w (omega arith) found);
-        lowest = λ x m. not-unknown (valueAt wires x) (lowest-first test n x m);
-      }
+      rw (lt-ltb (lowest test n) n (lowest-below test n w l found))
 
-  -- no wire is unknown, or the lowest that is is refused
-  pub accepted-or-refused : (Full (wireCount (given .sheet)) wires) ⊎ ((place : ℕ) × RefusedAt place)
-  unfolding Full
-  accepted-or-refused = go (ltb (lowest test n) n) refl
-    where
-      n : ℕ
-      n = wireCount (given .sheet)
+-- a wire that is unknown
+pub record SomeUnknown (n : ℕ) (values : List Value) : Type 0 where
+  pub wire : ℕ
+  pub inRange : wire < n
+  pub unknown : valueAt values wire ≡ Unknown
 
-      test : ℕ → Bool
-      test w = isUnknown (valueAt wires w)
+pub full-or-unknown : (n : ℕ) (values : List Value) → Full n values ⊎ SomeUnknown n values
+unfolding Full
+full-or-unknown n values = go (ltb (lowest test n) n) refl
+  where
+    test : ℕ → Bool
+    test w = isUnknown (valueAt values w)
 
-      go : (t : Bool) → ltb (lowest test n) n ≡ t → (Full n wires) ⊎ ((place : ℕ) × RefusedAt place)
-      go true e =
-          let below = ltb-true (lowest test n) n e in
-          inr (_, refuses-unknown (lowest test n) below (unknown-is _ (lowest-found test n below)))
-      go false e = inl (λ w l. not-unknown (valueAt wires w) (lowest-none test n e w l))
+    go : (t : Bool) → ltb (lowest test n) n ≡ t → Full n values ⊎ SomeUnknown n values
+    go true e =
+        let below = ltb-true (lowest test n) n e in
+        inr (record { wire = lowest test n; inRange = below; unknown = unknown-is _ (lowest-found test n below) })
+    go false e = inl (λ w l. not-unknown (valueAt values w) (lowest-none test n e w l))
 
 -- Demand 2.
 module _ (given : Given) where
   abbrev pub givenRound : List Value → List Value
   givenRound = round (given .sheet) (given .inputs) (given .memory)
+
+  abbrev pub givenUnder : List Value → Environment
+  givenUnder = under (given .inputs) (given .memory)
 
   abbrev pub givenFinished : List Value
   givenFinished = finished (given .sheet) (given .inputs) (given .memory)
@@ -108,7 +96,7 @@ module _ (given : Given) where
     pub only : Full (wireCount (given .sheet)) givenFinished → (s : List Value) → Solution givenRound s → s ≡ givenFinished
     pub accepted : Full (wireCount (given .sheet)) givenFinished → inRounds given ≡ result (givesOf given givenRounds givenFinished)
     pub refused : (w : ℕ) → w < wireCount (given .sheet) → valueAt givenFinished w ≡ Unknown
-        → inRounds given ≡ refusal StaysUnknown (placeOfUnknown (wireCount (given .sheet)) givenFinished)
+        → inRounds given ≡ refusal StaysUnknown (placeOfLoop given givenFinished)
     pub few : givenRounds ≤ suc (wireCount (given .sheet))
 
   pub demand2 : Demand2
@@ -119,7 +107,7 @@ module _ (given : Given) where
         least = finished-least (given .sheet) (given .inputs) (given .memory);
         only = only-solution (given .sheet) (given .inputs) (given .memory);
         accepted = accepts-full given givenRounds givenFinished;
-        refused = λ w l e. refuses-unknown given givenRounds givenFinished w l e .outcome;
+        refused = refuses-unknown given givenRounds givenFinished;
         few = rounds-bound (given .sheet) (given .inputs) (given .memory);
       }
 

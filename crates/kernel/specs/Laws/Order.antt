@@ -1,13 +1,14 @@
 -- The order on values and on lists of values: unknown is least, and a known value has nothing above it but itself.
 use mathlib.Core.Path.{_≡_, refl, subst}
 use Prim.Native.Nat.{ℕ, zero, suc}
-use mathlib.Core.Bool.{false}
+use mathlib.Core.Bool.{true, false}
 use mathlib.Core.List.{List}
 use lib.ListN.{length}
 use lib.Seq.{ext-getD}
 use Rattle.kernel.specs.Values.{isUnknown, IsKnown, known, whenKnown}
 use Rattle.kernel.specs.Order.{_⊑_, unknown, same, _⊑*_, valueAt, allUnknown}
 use Rattle.kernel.specs.Systems.{Full}
+use Rattle.sheet.specs.Laws.Lists.{never}
 use Rattle.sheet.specs.declared.Datum.{Datum}
 use Rattle.kernel.specs.declared.Value.{Value}
 use Rattle.kernel.specs.declared.Value.the-variants.{Unknown, Known}
@@ -26,6 +27,13 @@ pub ⊑-of-≡ : {u v : Value} → u ≡ v → u ⊑ v
 
 pub known-not : {v : Value} → IsKnown v → isUnknown v ≡ false
 known-not known = refl
+
+pub unknown-is : (v : Value) → isUnknown v ≡ true → v ≡ Unknown
+unknown-is Unknown e = refl
+unknown-is (Known d) e = never (cc)
+
+pub not-known : {v : Value} {A : Type 0} → IsKnown v → v ≡ Unknown → A
+not-known known e = never (cc)
 
 pub known-same : {u v : Value} → IsKnown u → u ⊑ v → u ≡ v
 known-same known same = refl

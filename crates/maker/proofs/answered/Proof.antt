@@ -10,7 +10,7 @@ lowest-loop-requires : tie.Need-lowest-loop-requires
 lowest-loop-requires c κs = search needs
 
 returns-2 : tie.Need-returns-2
-returns-2 c test rows = rw (c .before .if1 .left, c .lowest-loop .ensures test rows)
+returns-2 c test rows = rw (c .before .before .if1 .left, c .lowest-loop .ensures test rows)
 
 pub answered-spec : {M : Type 1} → statement M
 answered-spec = tie.close (tie.spec returns lowest-loop-requires returns-2)

@@ -27,7 +27,7 @@ enum-known-wires : tie.Need-enum-known-wires
 enum-known-wires c = search needs
 
 make-list-requires : tie.Need-make-list-requires
-make-list-requires c κs = found (c .before .before) .few
+make-list-requires c κs = let p = found (c .before .before) in (p .few, p .room)
 
 returns : tie.Need-returns
 returns c =

@@ -24,9 +24,10 @@ use Rattle.kernel.specs.Calls.{Given, givenOf}
 use Rattle.kernel.specs.Laws.Given.{given-by}
 use Rattle.kernel.specs.Laws.Schedules.{schedule-passed, passes-schedule, passed-schedule, schedule-passes}
 use Rattle.kernel.specs.Laws.Demands.{Demand3, demand3}
-use Rattle.maker.specs.Reaching.{reachesItself}
+use Rattle.closure.specs.Closures.{LowestLoop}
+use Rattle.maker.specs.Reaching.{Reads, reachesItself}
 use Rattle.maker.specs.Making.{madeList, madeOf, makerOutcome, makerCall, madeAnswer}
-use Rattle.maker.specs.Laws.Schedules.{LowestLoop, lowest-loop, schedule-acyclic, LowestEverywhere, LeastEverywhere}
+use Rattle.maker.specs.Laws.Schedules.{lowest-loop, schedule-acyclic, LowestEverywhere, LeastEverywhere}
 use Rattle.maker.specs.Laws.Schedules.{made-lowest, made-least, made-schedule, none-filled}
 use Rattle.maker.specs.declared.Made.{Made}
 use Rattle.maker.specs.declared.Made.the-variants.{Refused, Done}
@@ -51,7 +52,7 @@ module _ (s lent : List ℕ) where
     pub sheet : Sheet
     pub read : sheetOf s ≡ result sheet
     pub counted : length lent ≡ wireCount sheet
-    pub loop : LowestLoop sheet place
+    pub loop : LowestLoop (Reads sheet) (wireCount sheet) place
     pub none : NoList sheet
 
   -- refused 17: the sheet passes 1 to 11, and the lent list has another length
@@ -76,7 +77,8 @@ module _ (s lent : List ℕ) where
   data Comes : Outcome (List ℕ) → Type 0 where
     before : {why : Refusal} {place : ℕ} → sheetOf s ≡ refusal why place → Comes (refusal why place)
     sized : (sheet : Sheet) → sheetOf s ≡ result sheet → (length lent ≡ wireCount sheet → ⊥) → Comes (refusal ScheduleLength 0)
-    looped : (sheet : Sheet) → sheetOf s ≡ result sheet → length lent ≡ wireCount sheet → {place : ℕ} → LowestLoop sheet place
+    looped : (sheet : Sheet) → sheetOf s ≡ result sheet → length lent ≡ wireCount sheet → {place : ℕ}
+        → LowestLoop (Reads sheet) (wireCount sheet) place
         → Comes (refusal NoSchedule place)
     found : (sheet : Sheet) → sheetOf s ≡ result sheet → length lent ≡ wireCount sheet → IsSchedule sheet (madeList sheet)
         → LowestEverywhere sheet (madeList sheet) → LeastEverywhere sheet (madeList sheet) → Comes (result (madeList sheet))
@@ -109,7 +111,7 @@ module _ (s lent : List ℕ) where
       go : OutcomeWithin {A = Sheet} 11 (refusal why place) → numberOf why ≤ 11
       go (refusal-within w) = w .number
 
-  no-list : (sheet : Sheet) {place : ℕ} → LowestLoop sheet place → NoList sheet
+  no-list : (sheet : Sheet) {place : ℕ} → LowestLoop (Reads sheet) (wireCount sheet) place → NoList sheet
   no-list sheet {place} loop list order passes =
       schedule-acyclic sheet list (passed-schedule sheet list (schedule-passed sheet list order passes .1)) place (loop .loops)
 

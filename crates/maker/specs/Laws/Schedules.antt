@@ -15,9 +15,8 @@ use Rattle.sheet.specs.Outcomes.{lowest}
 use Rattle.sheet.specs.Sheets.{Sheet}
 use Rattle.sheet.specs.Typing.{WellTyped}
 use Rattle.sheet.specs.Laws.Lists.{never, neither, every-holds}
-use Rattle.sheet.specs.Laws.Lowest.{lowest-found, lowest-first, lowest-below, none-lowest}
-use Rattle.closure.specs.Closures.{one, _then_, Tells}
-use Rattle.closure.specs.Laws.{through-leads, leads-through}
+use Rattle.closure.specs.Closures.{one, _then_, Tells, lowestLoop, LowestLoop}
+use Rattle.closure.specs.Laws.{leads-from, finds-loop, found-lowest}
 use Rattle.kernel.specs.Instants.{wireCount}
 use Rattle.kernel.specs.Schedules.{entryAt, notNew, tooEarly, Earlier, IsSchedule}
 use Rattle.kernel.specs.Laws.Reads.{reader-below, reads-below}
@@ -31,38 +30,20 @@ module _ (sheet : Sheet) where
   tells : Tells (reads sheet) (Reads sheet)
   tells = record { says = λ v w e. e; said = λ v w e. e }
 
-  -- the test tells the wires that reach themselves
-  pub itself-reaches : (w : ℕ) → reachesItself sheet w ≡ true → Reaches sheet w w
-  unfolding reachesItself
-  itself-reaches w e = through-leads tells (wireCount sheet) w w e
-
-  pub reaches-itself : (w : ℕ) → Reaches sheet w w → reachesItself sheet w ≡ true
-  unfolding reachesItself
-  reaches-itself w r = leads-through tells (wireCount sheet) (λ v u e. reader-below (sheet .expressions) v u e) r
-
-  pub reader : {v w : ℕ} → Reaches sheet v w → v < wireCount sheet
-  reader (one {v} {w} e) = reader-below (sheet .expressions) v w e
-  reader (_then_ {u} {v} e r) = reader-below (sheet .expressions) u v e
-
-  -- the lowest wire that reaches itself
-  pub record LowestLoop (place : ℕ) : Type 0 where
-    pub inRange : place < wireCount sheet
-    pub loops : Reaches sheet place place
-    pub lower : (w : ℕ) → w < place → Reaches sheet w w → ⊥
+  read-from : (v w : ℕ) → Reads sheet v w → v < wireCount sheet
+  read-from = reader-below (sheet .expressions)
 
   abbrev low : ℕ
   low = lowest (reachesItself sheet) (wireCount sheet)
 
-  pub lowest-loop : low < wireCount sheet → LowestLoop low
-  lowest-loop l =
-      record {
-        inRange = l;
-        loops = itself-reaches low (lowest-found (reachesItself sheet) (wireCount sheet) l);
-        lower = λ w m r. never (cc (lowest-first (reachesItself sheet) (wireCount sheet) w m, reaches-itself w r));
-      }
+  -- the search finds the lowest wire that reaches itself
+  pub lowest-loop : low < wireCount sheet → LowestLoop (Reads sheet) (wireCount sheet) low
+  unfolding reachesItself lowestLoop
+  lowest-loop = found-lowest tells (wireCount sheet) read-from
 
-  pub loop-low : (w : ℕ) → Reaches sheet w w → low < wireCount sheet
-  loop-low w r = lowest-below (reachesItself sheet) (wireCount sheet) w (reader r) (reaches-itself w r)
+  loop-low : (w : ℕ) → Reaches sheet w w → low < wireCount sheet
+  unfolding reachesItself lowestLoop
+  loop-low = finds-loop tells (wireCount sheet) read-from
 
   pub no-loop : ltb low (wireCount sheet) ≡ false → (w : ℕ) → Reaches sheet w w → ⊥
   no-loop e w r = never (cc (e, lt-ltb low (wireCount sheet) (loop-low w r)))
@@ -86,7 +67,7 @@ module _ (sheet : Sheet) where
 
     pub schedule-acyclic : (w : ℕ) → Reaches sheet w w → ⊥
     schedule-acyclic w r =
-        let here = schedule .named w (reader r) in
+        let here = schedule .named w (leads-from tells (wireCount sheet) read-from r) in
         let earlier = falls r (here .position) (here .before) (here .names) in
         schedule .once (earlier .position) (here .position) (earlier .before) (here .before) (earlier .names ∙ sym (here .names))
 
@@ -134,12 +115,12 @@ module _ (sheet : Sheet) where
         omega arith
 
     pub filled-none : ltb low (wireCount sheet) ≡ false
-    filled-none =
-        none-lowest (reachesItself sheet) (wireCount sheet) (λ w l. go w (reachesItself sheet w) refl)
+    filled-none = go (ltb low (wireCount sheet)) refl
       where
-        go : (w : ℕ) (t : Bool) → reachesItself sheet w ≡ t → t ≡ false
-        go w false e = refl
-        go w true e = absurd (schedule-acyclic (madeList sheet) made-schedule w (itself-reaches w e))
+        go : (t : Bool) → ltb low (wireCount sheet) ≡ t → t ≡ false
+        go false e = refl
+        go true e =
+            absurd (schedule-acyclic (madeList sheet) made-schedule low (lowest-loop (ltb-true low (wireCount sheet) e) .loops))
 
   -- A sheet that passed the check.
   module _ (typed : WellTyped sheet) where

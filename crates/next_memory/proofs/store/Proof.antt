@@ -22,19 +22,19 @@ loop-holds : tie.Need-loop-holds Inv-loop μ-loop
 loop-holds c = (omega arith, refl, λ f. unstored f)
 
 may-own-requires : tie.Need-may-own-requires Inv-loop μ-loop
-may-own-requires c κs = (omega arith, c .before .before .before .before .before .pre .running .few)
+may-own-requires c κs = (omega arith, c .before .before .before .before .before .pre .under .running .few)
 
 mul-place : tie.Need-mul-place Inv-loop μ-loop
 mul-place c = search needs
 
 element-copy-out-place : tie.Need-element-copy-out-place Inv-loop μ-loop
-element-copy-out-place c = omega (arith, c .before .before .before .before .before .before .before .pre .running .few)
+element-copy-out-place c = omega (arith, c .before .before .before .before .before .before .before .pre .under .running .few)
 
 place-requires : tie.Need-place-requires Inv-loop μ-loop
 place-requires c κs = search needs
 
 element-copy-out-length-of : tie.Need-element-copy-out-length-of Inv-loop μ-loop
-element-copy-out-length-of c = omega (arith, c .before .before .before .before .before .before .before .before .before .pre .running .few)
+element-copy-out-length-of c = omega (arith, c .before .before .before .before .before .before .before .before .before .pre .under .running .few)
 
 length-of-requires : tie.Need-length-of-requires Inv-loop μ-loop
 length-of-requires c κs = search needs

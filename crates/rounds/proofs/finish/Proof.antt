@@ -23,14 +23,14 @@ abbrev μ-loop : tie.MeasureT-loop
     64 - tally (member (known .bits)) 64
 
 -- the round added a wire
-added : (c : tie.Else1 Inv-loop μ-loop) → let made = c .before .before .before in
-    ((w : ℕ) → member (made .round .result .known .bits) w ≡ true → member (made .before .before .loop .known .bits) w ≡ true) → ⊥
+added : (c : tie.Else1 Inv-loop μ-loop) → let made = c .before .before in
+    ((w : ℕ) → member (made .round .result .bits) w ≡ true → member (made .before .before .loop .known .bits) w ≡ true) → ⊥
 added c none = true≢false (sym (c .before .within .ensures .only none) ∙ c .if1 .left)
 
-grew : (c : tie.Else1 Inv-loop μ-loop) → let made = c .before .before .before in
-    tally (member (made .before .before .loop .known .bits)) 64 < tally (member (made .round .result .known .bits)) 64
+grew : (c : tie.Else1 Inv-loop μ-loop) → let made = c .before .before in
+    tally (member (made .before .before .loop .known .bits)) 64 < tally (member (made .round .result .bits)) 64
 grew c =
-    let made = c .before .before .before in
+    let made = c .before .before in
     let loop = made .before .before in
     let run = loop .before .before .before .before .before .before .before .before .pre .0 in
     more-known run (loop .loop .inv .1 run) (made .round .ensures) (added c)
@@ -56,14 +56,14 @@ round-requires c κs =
     before-here run (loop .loop .inv .1 run)
 
 add-made : tie.Need-add-made Inv-loop μ-loop
-add-made c = let l = c .before .before .before .loop in omega (arith, l .inv .0, tally-bound (member (l .known .bits)) 64)
+add-made c = let l = c .before .before .loop in omega (arith, l .inv .0, tally-bound (member (l .known .bits)) 64)
 
 within-requires : tie.Need-within-requires Inv-loop μ-loop
 within-requires c κs = tt
 
 returns : tie.Need-returns Inv-loop μ-loop
 returns c = λ run.
-    let made = c .before .before .before in
+    let made = c .before .before in
     ended run (made .before .before .loop .inv .1 run) (made .round .ensures) (c .before .within .ensures .all (c .if1 .taken))
 
 minus-requires : tie.Need-minus-requires Inv-loop μ-loop
@@ -75,12 +75,12 @@ of-any-requires c κs = tt
 loop-less : tie.Need-loop-less Inv-loop μ-loop
 loop-less c =
     let left = c .before .before .before in
-    omega (arith, grew left, tally-bound (member (left .before .before .before .round .result .known .bits)) 64)
+    omega (arith, grew left, tally-bound (member (left .before .before .round .result .bits)) 64)
 
 loop-again : tie.Need-loop-again Inv-loop μ-loop
 loop-again c =
     let left = c .before .before .before in
-    let made = left .before .before .before in
+    let made = left .before .before in
     let loop = made .before .before in
     let turned = loop .before .before .before .gather .ensures in (
       omega (arith, grew left, loop .loop .inv .0),

@@ -10,7 +10,7 @@ use Rattle.wires.specs.Sets.{member, EndsAt}
 use Rattle.wires.specs.Laws.{end-falls}
 use Rattle.leaves.specs.Words.{inputWords}
 use Rattle.rounds.specs.Running.{Before}
-use Rattle.rounds.proofs.Rounding.{Midway, begun, placed, further, round-done, met-last}
+use Rattle.rounds.proofs.Rounding.{Midway, begun, placed, further, round-done}
 use Rattle.rounds.proofs.round.Statement.{statement}
 use Rattle.rounds.proofs.round.Tie as tie
 
@@ -119,19 +119,11 @@ loop-again c =
           (put .put-value .ensures) (c .before .without .ensures),
     )
 
-lowest-missing-requires : tie.Need-lowest-missing-requires Inv-loop μ-loop
-lowest-missing-requires c κs = tt
-
-cast-last : tie.Need-cast-last Inv-loop μ-loop
-cast-last c = omega (arith, c .lowest-missing .ensures .within)
-
 returns : tie.Need-returns Inv-loop μ-loop
 returns c = λ b.
-    let l = c .before .before .loop in
-    let none : l .end ≡ 0 = omega (arith, c .before .loop-test .left) in (
-      round-done b (l .inv .1 _ (c .before .before .before .before .minus .ensures) b) (λ x. l .inv .0 .above x (omega arith)),
-      met-last (b .holds) (b .running .few) (c .lowest-missing .ensures),
-    )
+    let l = c .before .loop in
+    let none : l .end ≡ 0 = omega (arith, c .loop-test .left) in
+    round-done b (l .inv .1 _ (c .before .before .before .minus .ensures) b) (λ x. l .inv .0 .above x (omega arith))
 
 pub round-spec : {M : Type 1} → statement M
 round-spec =
@@ -157,6 +149,4 @@ round-spec =
     cast-end-2
     loop-less
     loop-again
-    lowest-missing-requires
-    cast-last
     returns)

@@ -145,7 +145,7 @@ returns-2 c = λ l.
       answers = rw (drop-of-length-le (a .types .now) (c .loop-test .left)) at (o .inv .6 l .0);
       drawn = record {
         maps = λ trees n k each. all-drawn (runOf (l .inputs) (a .types .now) (a .sheet .now .now) (a .at) trees n k each)
-            (c .loop-test .left) (start .pre .4 .forCells) (o .inv .6 l .1 trees n k each);
+            (c .loop-test .left) (start .pre .4 .forCells) (omega (arith, start .pre .4 .forReads, o .inv .5)) (o .inv .6 l .1 trees n k each);
       };
     }
 

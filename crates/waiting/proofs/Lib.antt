@@ -1,0 +1,4 @@
+-- What the proofs of several functions use.
+pub mod Counting
+pub mod Walking
+pub mod Relating

@@ -4,25 +4,21 @@
 #include "cases/chains.h"
 #include "cases/rows.h"
 
-#define CONSTANT(low) 1, NUMBER(low)
-
 #define ONLY_HIGHEST_UNKNOWN HEADER_OF_64, TIMES_63(CONSTANT(7)), 2, 63
 #define ONLY_LOWEST_UNKNOWN HEADER_OF_64, 2, 0, TIMES_63(CONSTANT(7))
 /* Wire 63 reads wire 0, which is wire 1; all others are known at once. */
 #define HIGHEST_WAITS_FOR_LOWEST HEADER_OF_64, 2, 1, TIMES_32(CONSTANT(7)), TIMES_15(CONSTANT(7)), TIMES_15(CONSTANT(7)), 2, 0
 
-/* Four number wires, of which wire 0 is the output. */
-#define HEADER_OF_4 0, 4, 1, 1, 1, 1, 1, 0
 /* Wire 0 is wire 1 + wire 2, of which wire 1 is known at once and wire 2 a round later. */
-#define SUM_OF_EARLY_AND_LATE HEADER_OF_4, 8, 2, 1, 2, 2, CONSTANT(1), 2, 3, CONSTANT(2)
+#define SUM_OF_EARLY_AND_LATE WIRES_4, 8, 2, 1, 2, 2, CONSTANT(1), 2, 3, CONSTANT(2)
 /* Wire 0 is wire 1 where wire 3 is 4, else itself; wire 1 is wire 2, wire 2 is wire 3. */
-#define KNOWN_BEFORE_ALL_READS HEADER_OF_4, 13, 11, 2, 3, CONSTANT(4), 2, 1, 2, 0, 2, 2, 2, 3, CONSTANT(4)
+#define KNOWN_BEFORE_ALL_READS WIRES_4, 13, 11, 2, 3, CONSTANT(4), 2, 1, 2, 0, 2, 2, 2, 3, CONSTANT(4)
 /* Wire 2 is itself; the others become known one after the other. */
-#define UNKNOWN_AMONG_KNOWN HEADER_OF_4, 2, 1, 2, 3, 2, 2, CONSTANT(6)
+#define UNKNOWN_AMONG_KNOWN WIRES_4, 2, 1, 2, 3, 2, 2, CONSTANT(6)
 /* Wires 0 and 3 are themselves, wire 1 is wire 2. */
-#define LOWEST_AND_HIGHEST_UNKNOWN HEADER_OF_4, 2, 0, 2, 2, CONSTANT(6), 2, 3
+#define LOWEST_AND_HIGHEST_UNKNOWN WIRES_4, 2, 0, 2, 2, CONSTANT(6), 2, 3
 /* Wire 3 reads wires 0 and 2, of which wire 2 is itself; wire 0 is wire 1. */
-#define HIGHER_UNKNOWN_FOR_GOOD HEADER_OF_4, 2, 1, CONSTANT(8), 2, 2, 9, 2, 0, 2, 2
+#define HIGHER_UNKNOWN_FOR_GOOD WIRES_4, 2, 1, CONSTANT(8), 2, 2, 9, 2, 0, 2, 2
 
 static const struct row rows[] = {
     {.name = "rising chain of 64: rounds", .call = call_rounds, .sheet = BYTES(RISING_CHAIN_OF_64), .output_length = 4, .answer = 65,

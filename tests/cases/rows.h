@@ -47,6 +47,20 @@ enum { sixteen_bits = 65536 };
 #define GREATEST_NUMBER 255, 255, 255, 127
 #define CELL(mark, low) mark, low, 0, 0, 0
 
+/* A wire that is a constant, and one that is another wire; and the head of a sheet of number wires without inputs, wire 0 the output. */
+#define CONSTANT(low) 1, NUMBER(low)
+#define WIRE(number) 2, number
+#define WIRES_2 0, 2, 1, 1, 1, 0
+#define WIRES_3 0, 3, 1, 1, 1, 1, 0
+#define WIRES_4 0, 4, 1, 1, 1, 1, 1, 0
+#define WIRES_5 0, 5, 1, 1, 1, 1, 1, 1, 0
+
+/* A lent list that holds rubbish, and a schedule made over it, with the greatest depth. */
+#define LENT(length) {NULL, length}
+#define MADE(title, depth, bytes, ...)                                                                                  \
+    {.name = title, .call = call_make, .sheet = BYTES(bytes), .schedule = LENT(sizeof((const uint8_t[]){__VA_ARGS__})), \
+     .answer = depth, .schedule_after = BYTES(__VA_ARGS__)}
+
 #define TWICE(...) __VA_ARGS__, __VA_ARGS__
 #define TIMES_4(...) TWICE(TWICE(__VA_ARGS__))
 #define TIMES_8(...) TWICE(TIMES_4(__VA_ARGS__))

@@ -4,8 +4,6 @@
 #include "cases/chains.h"
 #include "cases/rows.h"
 
-#define CONSTANT(low) 1, NUMBER(low)
-#define WIRE(number) 2, number
 #define INPUT(number) 3, number
 #define ALWAYS 0, 1
 #define NEVER 0, 0

@@ -9,7 +9,7 @@
 #include <stddef.h>
 #include <stdint.h>
 
-/* Makes a schedule: fills a list of one byte for each wire. Answers 0, or a refusal 1 to 11, 17 or 21. */
+/* Makes a schedule: fills a list of one byte for each wire. Answers the greatest depth, or a refusal 1 to 11, 17 or 21. */
 uint32_t probe_schedule(const uint8_t *sheet, size_t sheet_length, uint8_t *list, size_t list_length);
 
 /* Answers as nuthatchbed_rounds and fills the output row as it does; the memory is only read. */

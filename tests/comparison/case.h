@@ -17,6 +17,7 @@ struct subject {
     unsigned wires;
     unsigned outputs;
     unsigned cells;
+    unsigned depth; /* the greatest of its wires, 0 where the sheet has no schedule */
     const uint8_t *input_types;
 };
 

@@ -1,5 +1,6 @@
 /* The step of a case that goes from instant to instant: the start, then preview, rounds and schedule from the same memory, row and list,
- * which must agree as K3 and demand 3 say. Rests on the harness, on the generator's rows and on what the evaluator says of a refusal 20.
+ * which must agree as K3 and demand 3 say, within the rounds of K6. Rests on the harness, on the generator's rows and on what the evaluator
+ * says of a refusal 20.
  */
 #include "comparison/case.h"
 
@@ -23,12 +24,33 @@ static void count_loop(unsigned long *count, const struct buffers *given, uint32
     count[counter_waiting_through_others] += !stuck.waits_directly;
 }
 
+/* On a sheet that has a schedule: 20 never comes, and the rounds are at most the greatest depth plus one. */
+static void demand_few_rounds(struct harness *harness, const struct workspace *workspace, uint32_t rounds)
+{
+    const struct subject *const subject = &workspace->subject;
+    unsigned long *const count = harness->statistics.count;
+    if (subject->depth == 0)
+        return;
+    if (rounds / first_refusal == refused_as_unknown)
+        report_mismatch(harness, call_rounds, &workspace->given, "K6: refused 20, and yet there is a schedule");
+    if (rounds >= first_refusal)
+        return;
+    if (rounds > subject->depth + 1)
+        report_mismatch(harness, call_rounds, &workspace->given, "K6: more rounds than the greatest depth plus one");
+    count[counter_rounds_by_depth]++;
+    count[counter_rounds_at_depth] += rounds == subject->depth + 1;
+    count[counter_depths_below_wires] += subject->depth < subject->wires;
+    if (subject->depth > count[counter_greatest_depth])
+        count[counter_greatest_depth] = subject->depth;
+}
+
 static uint32_t compare_rounds(struct harness *harness, struct workspace *workspace)
 {
     const struct subject *const subject = &workspace->subject;
     const struct buffers *const given = &workspace->given;
     unsigned long *const count = harness->statistics.count;
     const uint32_t rounds = compare_call(harness, call_rounds, given, &workspace->by_rounds);
+    demand_few_rounds(harness, workspace, rounds);
     if (rounds / first_refusal == refused_as_unknown)
         count_loop(count, given, rounds % first_refusal);
     if (rounds >= first_refusal)

@@ -6,6 +6,7 @@
  */
 #include "comparison/case.h"
 
+#include "evaluator/evaluator.h"
 #include "generator/damage.h"
 #include "generator/rows.h"
 
@@ -37,7 +38,15 @@ static bool make_sheet(struct harness *harness, struct workspace *workspace)
     return false;
 }
 
-/* Notes what the header and the count of cells say of a sheet that passed the check. */
+/* By the evaluator, with which the maker's step compares the library. */
+static unsigned depth_of(const struct buffer *sheet, unsigned wires)
+{
+    uint8_t list[most_wires];
+    const uint32_t answer = evaluator_schedule(sheet->bytes, sheet->length, list, wires);
+    return answer < first_refusal ? answer : 0;
+}
+
+/* Notes what the header, the count of cells and the reads say of a sheet that passed the check. */
 static void note_subject(struct harness *harness, struct workspace *workspace, unsigned cells)
 {
     struct subject *const subject = &workspace->subject;
@@ -48,6 +57,7 @@ static void note_subject(struct harness *harness, struct workspace *workspace, u
     subject->wires = sheet[1 + subject->inputs];
     subject->outputs = sheet[2 + subject->inputs + subject->wires];
     subject->cells = cells;
+    subject->depth = depth_of(&workspace->given.of[role_sheet], subject->wires);
     subject->without_schedule = subject->as_generated && !fill_schedule(&harness->random, &subject->generator, schedule);
     harness->statistics.count[counter_sheets_by_construction] += subject->as_generated;
 }

@@ -81,12 +81,14 @@ static void demand_lowest(struct harness *harness, struct workspace *workspace)
 }
 
 /* The made list stands in "given": an instant along it must be accepted and leave what the rounds leave. */
-static void demand_schedule(struct harness *harness, struct workspace *workspace)
+static void demand_schedule(struct harness *harness, struct workspace *workspace, uint32_t depth)
 {
     const struct subject *const subject = &workspace->subject;
     struct buffers *const given = &workspace->given;
     if (subject->without_schedule)
         report_mismatch(harness, call_make, given, "a list for a sheet that has none");
+    if (depth == 0 || depth > subject->wires)
+        report_mismatch(harness, call_make, given, "a depth above the count of wires, or none");
     compare_start(harness, workspace);
     fill_input(&harness->random, subject->input_types, subject->inputs, &given->of[role_input]);
     fill_with_rubbish(&harness->random, &given->of[role_output], (size_t)bytes_of_number * subject->outputs);
@@ -133,8 +135,8 @@ void compare_maker(struct harness *harness, struct workspace *workspace)
     const uint32_t answer = compare_call(harness, call_make, given, given);
     if (!fits)
         demand_early_refusal(harness, workspace, answer);
-    else if (answer == 0)
-        demand_schedule(harness, workspace);
+    else if (answer < first_refusal)
+        demand_schedule(harness, workspace, answer);
     else if (answer / first_refusal == refused_for_loop)
         demand_loop(harness, workspace, answer % first_refusal);
     else

@@ -31,7 +31,7 @@ uint32_t evaluator_scheduled(const uint8_t *sheet, size_t sheet_length, uint8_t 
                              const uint8_t *input, size_t input_length, uint8_t *output, size_t output_length,
                              const uint8_t *schedule, size_t schedule_length);
 
-/* Refusals 1 to 11, 17 and 21. Success answers 0 and fills the list. */
+/* Refusals 1 to 11, 17 and 21. Success answers the greatest depth and fills the list. */
 uint32_t evaluator_schedule(const uint8_t *sheet, size_t sheet_length, uint8_t *list, size_t list_length);
 
 /* What else is to be said of an instant in rounds that is refused 20: the lowest unknown wire, the lowest unknown wire that reaches itself

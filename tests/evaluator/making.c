@@ -1,5 +1,5 @@
-/* The evaluator's maker of schedules: whether a list exists is told from what the wires reach, and the list is then put together position
- * by position. Rests on reading.c for the sheet and its reads, and on loops.c.
+/* The evaluator's maker of schedules: whether a list exists is told from what the wires reach, the list is then put together position by
+ * position, and the depths are found by themselves. Rests on reading.c for the sheet and its reads, and on loops.c.
  */
 #include "evaluator/internal.h"
 
@@ -25,6 +25,37 @@ static unsigned lowest_that_may_come_next(const struct layout *layout, uint64_t 
     return wire;
 }
 
+/* Raises the depth of a wire above those of all that it reads; answers whether it was below. */
+static bool raise_depth(const struct layout *layout, unsigned wire, unsigned *depths)
+{
+    bool raised = false;
+    for (unsigned read = 0; read < layout->wires; read++) {
+        if ((layout->wire_reads[wire] >> read & 1) != 0 && depths[wire] <= depths[read]) {
+            depths[wire] = depths[read] + 1;
+            raised = true;
+        }
+    }
+    return raised;
+}
+
+/* From 1 for each wire the depths are raised until none is below what K6 asks. As no wire reaches itself, that comes to an end, and no depth
+ * is above what K6 asks. */
+static unsigned greatest_depth(const struct layout *layout)
+{
+    unsigned depths[most_wires];
+    unsigned greatest = 0;
+    for (unsigned wire = 0; wire < layout->wires; wire++)
+        depths[wire] = 1;
+    for (bool raised = true; raised;) {
+        raised = false;
+        for (unsigned wire = 0; wire < layout->wires; wire++)
+            raised = raise_depth(layout, wire, depths) || raised;
+    }
+    for (unsigned wire = 0; wire < layout->wires; wire++)
+        greatest = depths[wire] > greatest ? depths[wire] : greatest;
+    return greatest;
+}
+
 uint32_t evaluator_schedule(const uint8_t *sheet, size_t sheet_length, uint8_t *list, size_t list_length)
 {
     struct layout layout;
@@ -42,5 +73,5 @@ uint32_t evaluator_schedule(const uint8_t *sheet, size_t sheet_length, uint8_t *
         list[position] = (uint8_t)wire;
         placed |= UINT64_C(1) << wire;
     }
-    return 0;
+    return greatest_depth(&layout);
 }

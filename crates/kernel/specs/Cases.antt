@@ -1,19 +1,21 @@
 -- Document 01's cases A to L, and those of document 02 about the instants, as one table: the sheet's bytes, the input rows of one
--- instant after the other, what each instant gives, and lists with what the scheduled instant answers. One test runs a row through the
--- outcomes of the calls.
+-- instant after the other, what each instant gives, lists with what the scheduled instant answers, and the greatest depth. One test
+-- runs a row through the outcomes of the calls.
 use Prim.Native.Nat.{ℕ, _+_, _*_}
-use mathlib.Core.Bool.{Bool, true, false, _&&_, cond}
+use mathlib.Core.Bool.{Bool, true, false, _&&_, _||_, cond}
 use mathlib.Core.List.{List, [], _∷_, _++_, map}
 use lib.Dec.{eqb}
 use lib.IntN.{ℤ, pos, negℤ}
 use lib.ListN.{length, replicate}
 use Rattle.sheet.specs.Examples.{quarterBytes}
-use Rattle.sheet.specs.Sheets.{checkOf}
+use Rattle.sheet.specs.Outcomes.{Outcome, refusal, result}
+use Rattle.sheet.specs.Sheets.{Sheet, checkOf, sheetOf}
 use Rattle.sheet.specs.Memory.{startCall, packedStarted}
 use Rattle.sheet.specs.Rows.{rowBytes}
 use Rattle.sheet.specs.declared.Datum.the-variants.{Number}
 use Rattle.sheet.specs.declared.Checked.{Checked}
 use Rattle.sheet.specs.declared.Checked.the-variants.{Refused, Passed}
+use Rattle.kernel.specs.Depths.{greatestDepth}
 use Rattle.kernel.specs.Calls.{InstantCall, roundsCall, scheduledCall, packedRounds, packedScheduled}
 use Rattle.kernel.specs.declared.InRounds.{InRounds}
 
@@ -34,6 +36,8 @@ pub record Case : Type 0 where
   pub sheet : List ℕ
   pub steps : List Step
   pub lists : List Along
+  -- 0 where the row says nothing of it
+  pub depth : ℕ
 
 -- The test of a row.
 unfoldable pub sameBytes : List ℕ → List ℕ → Bool
@@ -83,10 +87,15 @@ holdsFrom s memory lists (step inputs expected ∷ steps) =
     asExpected expected call memory output
     && (all (agrees s memory (row inputs) output call) lists && holdsFrom s (call .memory) lists steps)
 
+abbrev pub hasDepth : ℕ → Outcome Sheet → Bool
+hasDepth depth (refusal why place) = false
+hasDepth depth (result sheet) = eqb depth 0 || eqb (greatestDepth sheet) depth
+
 unfoldable pub holds : Case → Bool
 holds c =
     let started = startCall (c .sheet) (rubbish (memorySize (checkOf (c .sheet)))) in
-    eqb (packedStarted (started .answer)) 0 && holdsFrom (c .sheet) (started .memory) (c .lists) (c .steps)
+    eqb (packedStarted (started .answer)) 0
+    && (holdsFrom (c .sheet) (started .memory) (c .lists) (c .steps) && hasDepth (c .depth) (sheetOf (c .sheet)))
 
 -- How the rows are written.
 abbrev naturals : List ℕ → List ℤ
@@ -105,15 +114,15 @@ single inputTypes expression = length inputTypes ∷ (inputTypes ++ (1 ∷ 1 ∷
 
 -- wire 0 is its own schedule where it does not read itself
 abbrev alone : List ℕ → List Step → Case
-alone sheet steps = record { sheet = sheet; steps = steps; lists = along (0 ∷ []) 0 ∷ [] }
+alone sheet steps = record { sheet = sheet; steps = steps; lists = along (0 ∷ []) 0 ∷ []; depth = 1 }
 
 -- ... and is refused 19 at 0 where it does
 abbrev looping : List ℕ → List Step → Case
-looping sheet steps = record { sheet = sheet; steps = steps; lists = along (0 ∷ []) (19 * 65536) ∷ [] }
+looping sheet steps = record { sheet = sheet; steps = steps; lists = along (0 ∷ []) (19 * 65536) ∷ []; depth = 0 }
 
 -- a row that says nothing of lists
 abbrev unscheduled : List ℕ → List Step → Case
-unscheduled sheet steps = record { sheet = sheet; steps = steps; lists = [] }
+unscheduled sheet steps = record { sheet = sheet; steps = steps; lists = []; depth = 0 }
 
 -- two wires, of which wire 0 is a number and the output
 abbrev pair : (inputTypes : List ℕ) → (secondType : ℕ) → (first second : List ℕ) → List ℕ
@@ -172,6 +181,7 @@ table =
           ∷ on (0 ∷ 1 ∷ []) (0 ∷ 1 ∷ [])
           ∷ [];
       lists = along (0 ∷ 1 ∷ []) 0 ∷ along (1 ∷ 0 ∷ []) 0 ∷ [];
+      depth = 1;
     }
     -- B
     ∷ looping (single [] (2 ∷ 0 ∷ [])) (step [] (refuses 20 0) ∷ [])
@@ -189,6 +199,7 @@ table =
           ∷ along (0 ∷ 1 ∷ 1 ∷ []) (18 * 65536 + 2)
           ∷ along (2 ∷ 1 ∷ []) (17 * 65536)
           ∷ [];
+      depth = 3;
     }
     -- F
     ∷ alone (single [] (17 ∷ 1 ∷ 5 ∷ 0 ∷ 0 ∷ 0 ∷ 8 ∷ 2 ∷ 0 ∷ one-number))
@@ -215,6 +226,7 @@ table =
           ∷ step (naturals (0 ∷ 5 ∷ [])) (accepts 6 (minus 4 ∷ []))
           ∷ [];
       lists = [];
+      depth = 0;
     }
     -- K2: subtract at the lower end, and from -1 the least number; the greatest number negated
     ∷ alone (single [] (9 ∷ (least-number ++ one-number))) (gives (minus 2147483648) ∷ [])
@@ -251,4 +263,18 @@ table =
     ∷ step (naturals (0 ∷ 0 ∷ [])) (refuses 20 1)
     ∷ step (naturals (0 ∷ 1 ∷ [])) (refuses 20 0)
     ∷ [])
+    -- K6: wire 0 is wire 1 where the input is true, and else 0: an arm that is not chosen leaves fewer rounds than the depth plus one
+    ∷ record {
+      sheet = pair (0 ∷ []) 1 (13 ∷ 3 ∷ 0 ∷ 2 ∷ 1 ∷ zero-number) one-number;
+      steps = step (naturals (1 ∷ [])) (accepts 3 (naturals (1 ∷ []))) ∷ on (0 ∷ []) (0 ∷ []) ∷ [];
+      lists = along (1 ∷ 0 ∷ []) 0 ∷ [];
+      depth = 2;
+    }
+    -- K6: wire 0 is wire 1 + wire 2, and wire 1 is wire 2: the deepest that is read counts
+    ∷ record {
+      sheet = 0 ∷ 3 ∷ 1 ∷ 1 ∷ 1 ∷ 1 ∷ 0 ∷ 8 ∷ 2 ∷ 1 ∷ 2 ∷ 2 ∷ 2 ∷ 2 ∷ one-number;
+      steps = step [] (accepts 4 (naturals (2 ∷ []))) ∷ [];
+      lists = along (2 ∷ 1 ∷ 0 ∷ []) 0 ∷ [];
+      depth = 3;
+    }
     ∷ []

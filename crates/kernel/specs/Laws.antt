@@ -23,5 +23,6 @@ pub mod Storing
 pub mod Memory
 pub mod Refusals
 pub mod Answers
+pub mod Depths
 pub mod Sums
 pub mod Cases

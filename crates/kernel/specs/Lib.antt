@@ -7,6 +7,7 @@ pub mod Systems
 pub mod Instants
 pub mod Waits
 pub mod Schedules
+pub mod Depths
 pub mod Calls
 pub mod Cases
 pub mod Laws

@@ -1,4 +1,5 @@
--- Worked cases of the maker as one table: the sheet's bytes, the answer as one number, and the list that the call leaves.
+-- Worked cases of the maker as one table: the sheet's bytes, the answer as one number, which is the greatest depth or a refusal, and the
+-- list that the call leaves.
 use Prim.Native.Nat.{ℕ, _+_, _*_}
 use mathlib.Core.Bool.{Bool, _&&_}
 use mathlib.Core.List.{List, [], _∷_, _++_}
@@ -20,8 +21,8 @@ holds c =
     let call = makerCall (c .sheet) (rubbish (c .lent)) in
     eqb (packedMade (call .answer)) (c .packed) && sameBytes (call .list) (c .list)
 
-abbrev finds : (sheet list : List ℕ) → Case
-finds sheet list = record { sheet = sheet; lent = length list; packed = 0; list = list }
+abbrev finds : (sheet list : List ℕ) (depth : ℕ) → Case
+finds sheet list depth = record { sheet = sheet; lent = length list; packed = depth; list = list }
 
 -- after a refusal the list holds what it held
 abbrev refuses : (sheet : List ℕ) (lent number place : ℕ) → Case
@@ -38,13 +39,15 @@ five = 1 ∷ 5 ∷ 0 ∷ 0 ∷ 0 ∷ []
 unfoldable pub table : List Case
 table =
     -- A: wire 1 reads wire 0 an instant before, and not within the instant
-    finds quarterBytes (0 ∷ 1 ∷ [])
+    finds quarterBytes (0 ∷ 1 ∷ []) 1
     -- E
-    ∷ finds chainSheet (2 ∷ 1 ∷ 0 ∷ [])
+    ∷ finds chainSheet (2 ∷ 1 ∷ 0 ∷ []) 3
     -- at every position the search begins again at wire 0: wire 0 is wire 1
-    ∷ finds (three (2 ∷ 1 ∷ (five ++ five))) (1 ∷ 0 ∷ 2 ∷ [])
+    ∷ finds (three (2 ∷ 1 ∷ (five ++ five))) (1 ∷ 0 ∷ 2 ∷ []) 2
     -- an fby's right side is no read within the instant: wire 0 is 5 fby wire 0
-    ∷ finds (three (17 ∷ (five ++ (2 ∷ 0 ∷ (five ++ five))))) (0 ∷ 1 ∷ 2 ∷ [])
+    ∷ finds (three (17 ∷ (five ++ (2 ∷ 0 ∷ (five ++ five))))) (0 ∷ 1 ∷ 2 ∷ []) 1
+    -- the deepest wire is not the last placed: wire 1 is wire 0, and nothing reads wire 2
+    ∷ finds (three (five ++ (2 ∷ 0 ∷ five))) (0 ∷ 1 ∷ 2 ∷ []) 2
     -- wire 0 is wire 1, wire 1 is wire 1: the place is the wire that reaches itself, not the one that waits for it
     ∷ refuses (three (2 ∷ 1 ∷ 2 ∷ 1 ∷ five)) 3 21 1
     -- a loop of wires 1 and 2, which wire 0 does not reach

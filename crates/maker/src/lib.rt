@@ -1,5 +1,6 @@
 // The maker of a schedule: it fills a lent list with the wires of a sheet, each after all that it reads within the instant.
 // Rests on the check of a sheet for the map, which has what each wire reads, and on `closure` where there is no such list.
+mod depths;
 mod placing;
 
 use sheet::Checked;
@@ -19,13 +20,14 @@ ghost use Rattle.maker.specs.Making.{makerCall};
 ghost use Rattle.maker.specs.Placing.{Makes};
 ghost use Rattle.maker.specs.declared.Made.the-variants.{Refused, Done};
 
-// What the maker answers.
+// What the maker answers: a refusal, or the greatest depth of the sheet's wires.
 pub enum Made {
     Refused { why: Refusal, place: usize },
-    Done,
+    Done { depth: usize },
 }
 
-// The maker: 1 to 11, 17 where the list has not one byte for each wire, 21 where there is no schedule; else the list gets one.
+// The maker: 1 to 11, 17 where the list has not one byte for each wire, 21 where there is no schedule; else the list gets one, and the
+// answer is the greatest depth.
 pub fn make(sheet: &[u8], list: &mut [u8]) -> Made
     ensures { λ r. ⌜ r ≡ makerCall (now (sheet .entry)) (now (list .entry)) .answer ⌝ }
     ensures { λ _. ⌜ now (list .exit) ≡ makerCall (now (sheet .entry)) (now (list .entry)) .list ⌝ }
@@ -58,21 +60,22 @@ fn make_list(reads: &mut [u64; 64], wires: usize, list: &mut [u8]) -> Made
         };
     }
     let mut order = [0u8; 64];
-    let complete = placing::place_all(reads, wires, &mut order) == wires;
+    let positions = placing::place_all(reads, wires, &mut order);
+    let complete = positions.filled == wires;
     if complete {
         copy(&order, list);
     }
-    answered(complete, reads, wires)
+    answered(complete, positions.depth as usize, reads, wires)
 }
 
 // The answer, by whether each wire was placed: where not, 21 at the lowest wire that reaches itself, for which the reads are closed in place.
-fn answered(whole: bool, reads: &mut [u64; 64], wires: usize) -> Made
+fn answered(whole: bool, depth: usize, reads: &mut [u64; 64], wires: usize) -> Made
     requires { ⌜ (wires ≤ 64) × (64 ≤ length (now reads)) ⌝ }
     ensures { λ r. ⌜ ((test : ℕ → ℕ → Bool) → Rows test wires (now (reads .entry))
-        → r ≡ cond whole Done (Refused NoSchedule (lowestLoop test wires))) ⌝ }
+        → r ≡ cond whole (Done depth) (Refused NoSchedule (lowestLoop test wires))) ⌝ }
 {
     if whole {
-        return Made::Done;
+        return Made::Done { depth };
     }
     Made::Refused {
         why: Refusal::NoSchedule,

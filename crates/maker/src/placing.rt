@@ -1,5 +1,6 @@
 // The order in which the wires of a sheet are placed. A wire that cannot be placed yet waits for one of those that it reads, and is looked
-// at again only when that one is placed. Rests on `wires` for the sets.
+// at again only when that one is placed. Rests on `wires` for the sets and on `depths`.
+use crate::depths;
 use wires::Wires;
 ghost use mathlib.Core.Path.{_≡_};
 ghost use mathlib.Core.Bool.{Bool, true};
@@ -78,28 +79,39 @@ fn look_again(
     found
 }
 
-// Puts the lowest wire that is ready at one position after the other, until no wire is; how many were placed.
-pub fn place_all(reads: &[u64; 64], wires: usize, order: &mut [u8; 64]) -> usize
+// What came of placing: how many positions are filled, and the greatest depth of the wires there.
+pub struct Positions {
+    pub filled: usize,
+    pub depth: u8,
+}
+
+// Puts the lowest wire that is ready at one position after the other, until no wire is, and notes its depth, as all that it reads has one
+// by then.
+pub fn place_all(reads: &[u64; 64], wires: usize, order: &mut [u8; 64]) -> Positions
     requires { ⌜ (wires ≤ 64) × (64 ≤ length (now order)) ⌝ }
     ensures { λ r. ⌜ ((readsOf : ℕ → List ℕ) → EachHoldsJust (now (reads .entry)) wires readsOf
-        → Placed readsOf wires (now (order .exit)) r) ⌝ }
+        → Placed readsOf wires (now (order .exit)) (r .filled) (r .depth)) ⌝ }
     ensures { λ _. ⌜ length (now (order .exit)) ≡ length (now (order .entry)) ⌝ }
 {
     let mut waiting = [0u64; 64];
+    let mut depths = [0u8; 64];
     let mut ready = look_at_all(reads, wires, &mut waiting);
     let mut placed = Wires::none();
+    let mut depth = 0;
     let mut p = 0;
     while p < wires {
         let wire = ready.lowest() as usize;
         if 64 <= wire {
-            return p;
+            return Positions { filled: p, depth };
         }
         order[p] = wire as u8;
         placed = placed.with(wire);
+        let read = reads[wire];
+        depth = depths::note(wire, Wires { bits: read }, &mut depths, depth);
         let bits = waiting[wire];
         let others = ready.without(wire);
         ready = look_again(reads, Wires { bits }, placed, others, &mut waiting);
         p += 1;
     }
-    p
+    Positions { filled: p, depth }
 }

@@ -6,7 +6,7 @@ ghost use mathlib.Core.Path.{_≡_};
 ghost use Rattle.kernel.specs.Calls.{roundsCall, packedRounds};
 ghost use Rattle.maker.specs.Making.{makerCall, packedMade};
 
-// The maker of a schedule: 0, or a refusal; the list gets the schedule.
+// The maker of a schedule: the greatest depth, or a refusal; the list gets the schedule.
 #[no_mangle]
 pub extern "C" fn probe_schedule(sheet: &[u8], list: &mut [u8]) -> u32
     ensures { λ r. ⌜ r ≡ packedMade (makerCall (now (sheet .entry)) (now (list .entry)) .answer) ⌝ }
@@ -14,7 +14,7 @@ pub extern "C" fn probe_schedule(sheet: &[u8], list: &mut [u8]) -> u32
 {
     match maker::make(sheet, list) {
         Made::Refused { why, place } => refusals::packed(why, place),
-        Made::Done => 0,
+        Made::Done { depth } => depth as u32,
     }
 }
 

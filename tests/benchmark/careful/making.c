@@ -12,6 +12,8 @@ struct queue {
     uint64_t waiting[most_wires]; /* the wires that wait for this one */
     uint64_t placed;
     uint64_t ready; /* wait for nothing and are not placed */
+    uint8_t depths[most_wires]; /* of the placed ones */
+    unsigned depth;             /* the greatest of them */
 };
 
 static inline void make_wait(struct queue *queue, unsigned wire)
@@ -23,6 +25,19 @@ static inline void make_wait(struct queue *queue, unsigned wire)
         queue->waiting[lowest_of(missing)] |= UINT64_C(1) << wire;
 }
 
+/* What a wire reads is placed before it, so that its depth is known. */
+static inline void note_depth(struct queue *queue, unsigned wire)
+{
+    unsigned depth = 0;
+    for (uint64_t left = queue->reads[wire]; left != 0; left &= left - 1) {
+        const unsigned read = queue->depths[lowest_of(left)];
+        depth = depth < read ? read : depth;
+    }
+    depth++;
+    queue->depths[wire] = (uint8_t)depth;
+    queue->depth = queue->depth < depth ? depth : queue->depth;
+}
+
 /* Answers how many wires could be placed. */
 static unsigned place_wires(struct queue *queue, uint8_t *list)
 {
@@ -32,6 +47,7 @@ static unsigned place_wires(struct queue *queue, uint8_t *list)
         list[count++] = (uint8_t)wire;
         queue->ready &= queue->ready - 1;
         queue->placed |= UINT64_C(1) << wire;
+        note_depth(queue, wire);
         for (uint64_t left = queue->waiting[wire]; left != 0; left &= left - 1)
             make_wait(queue, lowest_of(left));
     }
@@ -49,7 +65,7 @@ uint32_t careful_schedule(const uint8_t *sheet, size_t sheet_length, uint8_t *li
     if (list_length != program.wires)
         return refusal(17, 0);
     queue.reads = program.wire_reads;
-    queue.placed = queue.ready = 0;
+    queue.placed = queue.ready = queue.depth = 0;
     memset(queue.waiting, 0, program.wires * sizeof queue.waiting[0]);
     for (unsigned wire = 0; wire < program.wires; wire++)
         make_wait(&queue, wire);
@@ -57,5 +73,5 @@ uint32_t careful_schedule(const uint8_t *sheet, size_t sheet_length, uint8_t *li
     if (place_wires(&queue, made) != program.wires)
         return refusal(21, lowest_looping(queue.reads, ~queue.placed));
     memcpy(list, made, program.wires);
-    return 0;
+    return queue.depth;
 }

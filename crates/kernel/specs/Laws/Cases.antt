@@ -30,6 +30,7 @@ use Rattle.kernel.specs.Systems as System
 use Rattle.kernel.specs.Systems.{Full}
 use Rattle.kernel.specs.Instants.{readsAt, valueOfWire, values, storedCells, round, rounds, finished, nextMemory, outputRow}
 use Rattle.kernel.specs.Schedules.{entryAt, notNew, tooEarly, scheduleOf, passFrom, pass}
+use Rattle.kernel.specs.Depths.{deepest, depthWithin, depthOf, wiresBelow, greatestDepth}
 use Rattle.kernel.specs.Calls.{Given, givenOf, anyUnknown, placeOfLoop, acceptedOf, inRounds, scheduled, scheduledAnswer}
 use Rattle.kernel.specs.Calls.{roundsCall, scheduledCall}
 use Rattle.kernel.specs.Cases.{sameBytes, all, agrees, holdsFrom, holds, crossedSheet, table}
@@ -50,7 +51,7 @@ unfolding settled equals cellForms cellCount meaningOf operandsOf lowest
     readsAt valueOfWire values storedCells round rounds finished nextMemory outputRow
     through lowestLoop wiresAwaited waitsFor lowestWaiting
     notNew tooEarly scheduleOf passFrom pass givenOf anyUnknown placeOfLoop acceptedOf inRounds scheduled roundsCall scheduledCall
-    sameBytes all agrees holdsFrom holds table
+    deepest depthWithin depthOf wiresBelow greatestDepth sameBytes all agrees holdsFrom holds table
 table-holds = refl
 
 -- Case L: no list passes. Passing goes by reads alone. With `if` for `present` the sheet has the same reads, so that a list

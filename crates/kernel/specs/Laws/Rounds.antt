@@ -110,6 +110,19 @@ module _ (n : ℕ) (next : List Value → List Value) (system : Monotone n next)
       go false e true f = absurd (before l (ltb-true l k f) (last-unchanged l refl))
       go false e false f = omega (arith, ltb-false k l e, ltb-false l k f)
 
+  -- where no wire is left unknown, the next round changes nothing
+  pub rounds-full : (k : ℕ) → Full n (after n next k) → rounds n next ≤ suc k
+  rounds-full k full = go (ltb (suc k) (rounds n next)) refl
+    where
+      same : after n next k ≡ after n next (suc k)
+      same =
+          full-same n (after n next k) (after n next (suc k)) (after-length k) (after-length (suc k)) full
+          (climbs k (suc k) (omega arith))
+
+      go : (t : Bool) → ltb (suc k) (rounds n next) ≡ t → rounds n next ≤ suc k
+      go false e = ltb-false (suc k) (rounds n next) e
+      go true e = absurd (earlier-changed k (ltb-true (suc k) (rounds n next) e) same)
+
   -- the finished values are the least solution
   pub finished-solution : Solution next (finished n next)
   unfolding Solution finished rounds after

@@ -65,7 +65,7 @@ module _ (list : List ℕ) where
       go false e true q a earlier = record { position = p; before = omega arith; names = sym (eqb-true w (entryAt list p) q) }
       go false e false q a earlier = never (cc)
 
-  earlier-named : (p : ℕ) → p ≤ length list → (w : ℕ) → Earlier list p w → among w (take p list) ≡ true
+  pub earlier-named : (p : ℕ) → p ≤ length list → (w : ℕ) → Earlier list p w → among w (take p list) ≡ true
   unfolding among
   earlier-named zero l w h = absurd (omega (arith, h .before))
   earlier-named (suc p) l w h =

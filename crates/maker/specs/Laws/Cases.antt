@@ -10,6 +10,7 @@ use Rattle.sheet.specs.Headers.{fieldOf, bytesOf, sectionOf}
 use Rattle.sheet.specs.Sheets.{outputsFrom, wiresFrom, readSheet, sheetOf}
 use Rattle.closure.specs.Closures.{through}
 use Rattle.kernel.specs.Instants.{readsAt}
+use Rattle.kernel.specs.Depths.{deepest, depthWithin, depthOf, wiresBelow, greatestDepth}
 use Rattle.kernel.specs.Cases.{sameBytes, all}
 use Rattle.maker.specs.Reaching.{reachesItself}
 use Rattle.maker.specs.Making.{ready, placedBy, madeList, madeOf, makerOutcome, makerCall}
@@ -18,5 +19,6 @@ use Rattle.maker.specs.Cases.{holds, table}
 pub table-holds : all holds table ≡ true
 unfolding meaningOf operandsOf lowest readEach namesOf bodyFrom ownOf readExpression fieldOf bytesOf sectionOf
     outputsFrom wiresFrom readSheet sheetOf among allAmong wiresRead readsAt sameBytes all
-    through reachesItself ready placedBy madeList madeOf makerOutcome makerCall holds table
+    through reachesItself ready placedBy madeList madeOf makerOutcome makerCall
+    deepest depthWithin depthOf wiresBelow greatestDepth holds table
 table-holds = refl

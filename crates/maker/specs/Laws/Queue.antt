@@ -17,14 +17,14 @@ use Rattle.sheet.specs.Laws.Lowest.{lowest-is}
 use Rattle.maker.specs.Making.{ready}
 use Rattle.maker.specs.Queue.{Unplaced, Awaits, Queue}
 
-same-or-other : (x y : ℕ) → (x ≡ y) ⊎ (eqb x y ≡ false)
+pub same-or-other : (x y : ℕ) → (x ≡ y) ⊎ (eqb x y ≡ false)
 same-or-other x y = go (eqb x y) refl
   where
     go : (t : Bool) → eqb x y ≡ t → (x ≡ y) ⊎ (eqb x y ≡ false)
     go true e = inl (eqb-true x y e)
     go false e = inr e
 
-among-one-more : (x w : ℕ) (list : List ℕ) → among x (list ++ (w ∷ [])) ≡ (among x list || eqb x w)
+pub among-one-more : (x w : ℕ) (list : List ℕ) → among x (list ++ (w ∷ [])) ≡ (among x list || eqb x w)
 unfolding among
 among-one-more x w list = rw (among-append x list (w ∷ []), or-false)
 

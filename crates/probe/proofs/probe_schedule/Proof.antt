@@ -3,7 +3,7 @@ use mathlib.Core.Path.{sym, ap, _∙_}
 use native.Mathlib.Omega.{arith}
 use borrow.Author.Needs.{needs}
 use Rattle.maker.specs.Making.{packedMade}
-use Rattle.maker.specs.Laws.Calls.{maker-bounded}
+use Rattle.maker.specs.Laws.Calls.{depth-bounded, maker-bounded}
 use Rattle.probe.proofs.probe_schedule.Statement.{statement}
 use Rattle.probe.proofs.probe_schedule.Tie as tie
 
@@ -18,8 +18,13 @@ packed-requires c κs =
     let within = maker-bounded _ _ (sym (c .before .before .before .before .before .make .ensures .0) ∙ c .before .why .given .1) in
     omega arith
 
-enum-told : tie.Need-enum-told
-enum-told c = search needs
+enum-known-depth : tie.Need-enum-known-depth
+enum-known-depth c = search needs
+
+cast-result : tie.Need-cast-result
+cast-result c =
+    let within = depth-bounded _ _ (sym (c .before .before .before .before .before .make .ensures .0) ∙ c .before .depth .given .1) in
+    omega arith
 
 same-length : tie.Need-same-length
 same-length c = search needs
@@ -34,9 +39,19 @@ same-length-2 c = search needs
 
 returns-2 : tie.Need-returns-2
 returns-2 c =
-    let ensured = c .before .before .before .before .make .ensures in
-    (ap packedMade (sym (c .enum-told .given .1) ∙ ensured .0), ensured .1)
+    let ensured = c .before .before .before .before .before .make .ensures in
+    (ap packedMade (sym (c .before .depth .given .1) ∙ ensured .0), ensured .1)
 
 pub probe-schedule-spec : {M : Type 1} → statement M
 probe-schedule-spec =
-    tie.close (tie.spec make-requires enum-known-why packed-requires enum-told same-length returns same-length-2 returns-2)
+    tie.close
+    (tie.spec
+    make-requires
+    enum-known-why
+    packed-requires
+    enum-known-depth
+    cast-result
+    same-length
+    returns
+    same-length-2
+    returns-2)

@@ -11,7 +11,7 @@ use Rattle.wires.specs.Laws.{lowest-present-rises}
 use Rattle.sheet_expressions.specs.Map.{HoldsJust, EachHoldsJust}
 use Rattle.maker.specs.Queue.{Queue}
 use Rattle.maker.specs.Laws.Queue.{queue-left}
-use Rattle.maker.proofs.Steps.{taken-out, taken-in, none-left}
+use Rattle.maker.proofs.Sets.{taken-out, taken-in, none-left}
 use Rattle.maker.proofs.placing.look_again.Statement.{statement}
 use Rattle.maker.proofs.placing.look_again.Tie as tie
 

@@ -9,6 +9,9 @@
  * Every call takes buffers of any contents and any length, and answers one number: on a refusal the refusal's number times 65,536
  * plus its place, and then every buffer holds what it held before; else what is said at the call, which is below 65,536.
  *
+ * A wire whose type byte is 2 or 3 is kept: it owns a cell, which starts false or 0 and in which each accepted instant stores the wire's value. No
+ * reset touches it, and kind 18 gives it.
+ *
  * A number is 32 bits in two's complement. Add, subtract and negate stop at its ends, 2147483647 and -2147483648: a full register stays
  * full.
  */
@@ -38,13 +41,13 @@ enum {
     NUTHATCHBED_SHEET_LENGTH = 1,     /* length 0 or above 4,096 */
     NUTHATCHBED_CUT = 2,              /* a field or kind byte is missing or cut; place: the sheet's length */
     NUTHATCHBED_COUNT_RANGE = 3,      /* a count out of range */
-    NUTHATCHBED_TYPE_BYTE = 4,        /* a type byte above 1 */
+    NUTHATCHBED_TYPE_BYTE = 4,        /* a type byte of an input above 1, of a wire above 3 */
     NUTHATCHBED_OUTPUT_WIRE = 5,      /* an output that is no wire, or not above the one before */
-    NUTHATCHBED_KIND = 6,             /* a kind above 17 */
-    NUTHATCHBED_BODY = 7,             /* a wire or input that is not there, or a Boolean above 1 */
+    NUTHATCHBED_KIND = 6,             /* a kind above 18 */
+    NUTHATCHBED_BODY = 7,             /* a wire or input that is not there, a wire that is not kept at kind 18, or a Boolean above 1 */
     NUTHATCHBED_LEVEL = 8,            /* a level above 16 */
     NUTHATCHBED_TYPE_ASKED = 9,       /* a type that is not the one asked */
-    NUTHATCHBED_CELL_LIMIT = 10,      /* a 65th cell */
+    NUTHATCHBED_CELL_LIMIT = 10,      /* a 65th cell, where those of all kept wires are counted first */
     NUTHATCHBED_LEFT_OVER = 11,       /* bytes left over */
     NUTHATCHBED_MEMORY_LENGTH = 12,   /* length is not 5 times the cells; place: 0 */
     NUTHATCHBED_CELL_CONTENT = 13,    /* a cell that is not valid; place: its number */

@@ -30,8 +30,10 @@ static struct sheet *single(struct group *group, const char *name)
     return &group->sheets[0];
 }
 
-/* Number inputs, number wires, and the first wires as outputs. */
-static void put_header(struct sheet *sheet, unsigned inputs, unsigned wires, unsigned outputs)
+enum { number_wire = 1, kept_number_wire = 3 };
+
+/* Number inputs, wires of one type, and the first wires as outputs. */
+static void put_header(struct sheet *sheet, unsigned inputs, unsigned wires, unsigned type, unsigned outputs)
 {
     sheet->wires = wires;
     sheet->input_length = inputs * NUTHATCHBED_ENTRY_BYTES;
@@ -41,7 +43,7 @@ static void put_header(struct sheet *sheet, unsigned inputs, unsigned wires, uns
         put(sheet, 1);
     put(sheet, wires);
     for (unsigned wire = 0; wire < wires; wire++)
-        put(sheet, 1);
+        put(sheet, type);
     put(sheet, outputs);
     for (unsigned output = 0; output < outputs; output++)
         put(sheet, output);
@@ -54,7 +56,7 @@ void make_quarter(struct group *group)
     struct sheet *const sheet = single(group, "quarter sheet");
     static const uint8_t bytes[] = {2,  0, 0, 2, 1, 1, 2, 0, 1, 14, 3, 1, 8, 16, 0, 0, 0, 0,  2, 0,
                                     12, 3, 0, 1, 1, 0, 0, 0, 1, 0,  0, 0, 0, 16, 0, 0, 0, 0, 2, 0};
-    put_header(sheet, 2, 2, 2);
+    put_header(sheet, 2, 2, number_wire, 2);
     memcpy(sheet->bytes, bytes, sizeof bytes);
     sheet->length = sizeof bytes;
     sheet->input[0] = 1;
@@ -63,7 +65,7 @@ void make_quarter(struct group *group)
 void make_chain(struct group *group)
 {
     struct sheet *const sheet = single(group, "chain of 64 wires");
-    put_header(sheet, 0, 64, 1);
+    put_header(sheet, 0, 64, number_wire, 1);
     for (unsigned wire = 0; wire < 63; wire++)
         put_named(sheet, 2, wire + 1);
     put_number(sheet, 1, 5);
@@ -74,7 +76,7 @@ void make_chain(struct group *group)
 void make_wide(struct group *group)
 {
     struct sheet *const sheet = single(group, "64 wires, 2,000 bytes");
-    put_header(sheet, 1, 64, 16);
+    put_header(sheet, 1, 64, number_wire, 16);
     for (unsigned wire = 0; wire < 64; wire++) {
         put(sheet, 12);
         put(sheet, 10);
@@ -108,7 +110,7 @@ static void put_tree(struct sheet *sheet, unsigned depth)
 void make_deep(struct group *group)
 {
     struct sheet *const sheet = single(group, "deep, 4,000 bytes");
-    put_header(sheet, 0, 9, 9);
+    put_header(sheet, 0, 9, number_wire, 9);
     for (unsigned wire = 0; wire < 9; wire++) {
         for (unsigned level = 0; level < 9; level++) {
             put(sheet, 8);
@@ -116,4 +118,21 @@ void make_deep(struct group *group)
         }
         put_tree(sheet, 6);
     }
+}
+
+void make_kept(struct group *group)
+{
+    struct sheet *const sheet = single(group, "64 kept counters");
+    put_header(sheet, 1, 64, kept_number_wire, 16);
+    for (unsigned wire = 0; wire < 64; wire++) {
+        put(sheet, 8);
+        put_named(sheet, 18, wire);
+        put(sheet, 12);
+        put(sheet, 10);
+        put_named(sheet, 18, wire / 2);
+        put_named(sheet, 3, 0);
+        put_number(sheet, 1, wire + 1);
+        put_number(sheet, 1, 0);
+    }
+    sheet->input[0] = 40;
 }

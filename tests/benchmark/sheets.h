@@ -40,6 +40,8 @@ group_maker make_chain;
 group_maker make_wide;
 /* regular.c: sums down to level 16: a spine of ten sums over a full tree. */
 group_maker make_deep;
+/* regular.c: each wire is kept and counts on from its last while the last of the wire at half its number is below the input: 64 cells. */
+group_maker make_kept;
 /* irregular.c: eight random sheets of about 2,000 bytes, and eight of about 4,000. */
 group_maker make_irregular_2000;
 group_maker make_irregular_4000;

@@ -1,10 +1,9 @@
 /* Arithmetic, above all at the ends, where add, subtract and negate stop (document 02, K2). Rests on its own sheets. */
 #include "cases/rows.h"
 
-/* Numbers that are a few from an end, and a cell that holds a number of four bytes. */
+/* Numbers that are a few from an end. */
 #define GREATEST_LESS(few) 255 - (few), 255, 255, 127
 #define LEAST_PLUS(few) few, 0, 0, 128
-#define STARTED_CELL(...) 1, __VA_ARGS__
 
 /* Inputs x and y; wires: x below y, x equals y, x + y, x - y, -x. */
 #define ARITHMETIC                                                                                                       \

@@ -40,16 +40,20 @@ enum { sixteen_bits = 65536 };
 
 #define BYTES(...) {(const uint8_t[]){__VA_ARGS__}, sizeof((const uint8_t[]){__VA_ARGS__})}
 
-/* Four bytes of a number from 0 to 255 or from -255 to -1, and five bytes of a cell. */
+/* Four bytes of a number from 0 to 255 or from -255 to -1, five bytes of a cell, and those of one that holds a number of four bytes. */
 #define NUMBER(low) low, 0, 0, 0
 #define MINUS(low) 256 - (low), 255, 255, 255
 #define LEAST_NUMBER 0, 0, 0, 128
 #define GREATEST_NUMBER 255, 255, 255, 127
 #define CELL(mark, low) mark, low, 0, 0, 0
+#define STARTED_CELL(...) 1, __VA_ARGS__
 
-/* A wire that is a constant, and one that is another wire; and the head of a sheet of number wires without inputs, wire 0 the output. */
+/* Constants, a wire, an input and the last of a kept wire; and the head of a sheet of number wires without inputs, wire 0 the output. */
+#define BOOLEAN(value) 0, value
 #define CONSTANT(low) 1, NUMBER(low)
 #define WIRE(number) 2, number
+#define INPUT(number) 3, number
+#define LAST(number) 18, number
 #define WIRES_2 0, 2, 1, 1, 1, 0
 #define WIRES_3 0, 3, 1, 1, 1, 1, 0
 #define WIRES_4 0, 4, 1, 1, 1, 1, 1, 0

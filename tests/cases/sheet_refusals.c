@@ -38,7 +38,7 @@ static const struct row rows[] = {
 
     {.name = "4: input before the cut", .sheet = BYTES(3, 7), .refused = 4, .place = 1},
     {.name = "4: second input", .sheet = BYTES(2, 1, 2), .refused = 4, .place = 2},
-    {.name = "4: wire", .sheet = BYTES(0, 1, 2), .refused = 4, .place = 2},
+    {.name = "4: wire", .sheet = BYTES(0, 1, 4), .refused = 4, .place = 2},
     {.name = "4: second wire", .sheet = BYTES(1, 0, 2, 0, 255), .refused = 4, .place = 4},
 
     {.name = "5: not a wire", .sheet = BYTES(0, 1, 1, 1, 1), .refused = 5, .place = 4},
@@ -48,10 +48,10 @@ static const struct row rows[] = {
     {.name = "5: more outputs than wires", .sheet = BYTES(0, 1, 1, 2, 0, 1), .refused = 5,
      .place = 5},
 
-    {.name = "6: kind 18", .sheet = BYTES(0, 1, 1, 1, 0, 18), .refused = 6, .place = 5},
+    {.name = "6: kind 19", .sheet = BYTES(0, 1, 1, 1, 0, 19), .refused = 6, .place = 5},
     {.name = "6: kind 255 as second operand",
      .sheet = BYTES(0, 1, 1, 1, 0, 8, 1, 0, 0, 0, 0, 255), .refused = 6, .place = 11},
-    {.name = "6: kind 18 on level 17", .sheet = BYTES(0, 1, 1, 1, 0, TIMES_16(5), 18),
+    {.name = "6: kind 19 on level 17", .sheet = BYTES(0, 1, 1, 1, 0, TIMES_16(5), 19),
      .refused = 6, .place = 21},
 
     {.name = "7: wire 1 of 1", .sheet = BYTES(0, 1, 1, 1, 0, 2, 1), .refused = 7, .place = 5},

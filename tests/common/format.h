@@ -1,9 +1,10 @@
-/* The format in numbers, for the implementations in C: the limits, the kinds, a refusal with its place as one number, and the four bytes of
- * a number. Rests on nothing but document 01.
+/* The format in numbers, for the implementations in C: the limits, the type bytes, the kinds, a refusal with its place as one number, and
+ * the four bytes of a number. Rests on nothing but the documents 01 and 02.
  */
 #ifndef COMMON_FORMAT_H
 #define COMMON_FORMAT_H
 
+#include <stdbool.h>
 #include <stddef.h>
 #include <stdint.h>
 
@@ -14,6 +15,8 @@ enum {
     most_outputs = 16,
     most_cells = 64,
     deepest_level = 16,
+    highest_input_type = 1,
+    highest_wire_type = 3,
     bytes_of_number = 4,
     bytes_of_cell = 5
 };
@@ -37,8 +40,20 @@ enum kind {
     kind_boolean_pre = 15,
     kind_number_pre = 16,
     kind_fby = 17,
+    kind_last = 18,
     kinds
 };
+
+/* A type byte: 0 and 2 are Boolean, 1 and 3 number, and the upper two are those of kept wires. */
+static inline unsigned plain_type(unsigned type_byte)
+{
+    return type_byte & 1;
+}
+
+static inline bool is_kept(unsigned type_byte)
+{
+    return type_byte > 1;
+}
 
 static inline uint32_t refusal(uint32_t number, size_t place)
 {

@@ -13,6 +13,7 @@ struct subject {
     bool as_generated;     /* undamaged and within the limits: the generator's knowledge holds */
     bool without_schedule; /* as generated, and reading in a circle */
     bool passed_check;     /* the check, and the rest below is set */
+    bool with_kept;        /* some wire is kept */
     unsigned inputs;
     unsigned wires;
     unsigned outputs;
@@ -49,6 +50,20 @@ void compare_start(struct harness *harness, struct workspace *workspace);
 
 /* The preview and both instants from the memory, input row and list in "given". Answers whether the rounds are accepted. */
 bool compare_instant(struct harness *harness, struct workspace *workspace, bool list_passes);
+
+/* ---- kept.c ---- */
+
+/* Of a sheet whose header passed. */
+bool has_kept_wire(const uint8_t *sheet);
+
+/* Counts what the answer of the check, of the rounds and of an instant accepted along the list in "given" means for kept wires; and demands
+ * that accepted rounds, whose memory is that of "by_rounds", have stored their values. */
+void note_check_of_kept(struct harness *harness, const struct workspace *workspace, uint32_t answer);
+void note_rounds_of_kept(struct harness *harness, const struct workspace *workspace, uint32_t rounds);
+void note_list_of_kept(struct harness *harness, const struct workspace *workspace);
+
+/* The starting memory is in "given". */
+void demand_kept_start(struct harness *harness, const struct workspace *workspace);
 
 /* ---- ends.c ---- */
 

@@ -51,6 +51,7 @@ static uint32_t compare_rounds(struct harness *harness, struct workspace *worksp
     unsigned long *const count = harness->statistics.count;
     const uint32_t rounds = compare_call(harness, call_rounds, given, &workspace->by_rounds);
     demand_few_rounds(harness, workspace, rounds);
+    note_rounds_of_kept(harness, workspace, rounds);
     if (rounds / first_refusal == refused_as_unknown)
         count_loop(count, given, rounds % first_refusal);
     if (rounds >= first_refusal)
@@ -76,6 +77,7 @@ static uint32_t compare_rounds_previewed(struct harness *harness, struct workspa
     if (rounds < first_refusal && !same_bytes(&previewed->of[role_output], &workspace->by_rounds.of[role_output]))
         report_mismatch(harness, call_rounds, given, "K3: the preview shows another row");
     harness->statistics.count[counter_instants_previewed] += rounds < first_refusal;
+    harness->statistics.count[counter_kept_instants_previewed] += rounds < first_refusal && workspace->subject.with_kept;
     return rounds;
 }
 
@@ -97,6 +99,7 @@ bool compare_instant(struct harness *harness, struct workspace *workspace, bool 
         !same_bytes(&by_rounds->of[role_output], &by_schedule->of[role_output]))
         report_mismatch(harness, call_scheduled, given, "demand 3: rounds and schedule differ");
     harness->statistics.count[counter_instants_both_ways]++;
+    note_list_of_kept(harness, workspace);
     return true;
 }
 
@@ -135,6 +138,7 @@ void compare_start(struct harness *harness, struct workspace *workspace)
     }
     if (compare_call(harness, call_start, given, given) != 0)
         report_mismatch(harness, call_start, given, "the right length of memory is refused");
+    demand_kept_start(harness, workspace);
 }
 
 void compare_instants(struct harness *harness, struct workspace *workspace)

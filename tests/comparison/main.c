@@ -57,6 +57,7 @@ static void note_subject(struct harness *harness, struct workspace *workspace, u
     subject->wires = sheet[1 + subject->inputs];
     subject->outputs = sheet[2 + subject->inputs + subject->wires];
     subject->cells = cells;
+    subject->with_kept = has_kept_wire(sheet);
     subject->depth = depth_of(&workspace->given.of[role_sheet], subject->wires);
     subject->without_schedule = subject->as_generated && !fill_schedule(&harness->random, &subject->generator, schedule);
     harness->statistics.count[counter_sheets_by_construction] += subject->as_generated;
@@ -70,6 +71,7 @@ static void run_case(struct harness *harness, struct workspace *workspace)
     const uint32_t answer = compare_call(harness, call_check, given, given);
     if (subject->as_generated && answer != subject->generator.cells)
         report_mismatch(harness, call_check, given, "a sheet correct by construction is refused");
+    note_check_of_kept(harness, workspace, answer);
     subject->passed_check = answer < first_refusal;
     if (subject->passed_check)
         note_subject(harness, workspace, answer);

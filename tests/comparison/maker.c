@@ -94,6 +94,7 @@ static void demand_schedule(struct harness *harness, struct workspace *workspace
     fill_with_rubbish(&harness->random, &given->of[role_output], (size_t)bytes_of_number * subject->outputs);
     (void)compare_instant(harness, workspace, true);
     harness->statistics.count[counter_instants_along_made_list]++;
+    harness->statistics.count[counter_kept_lists_made] += subject->with_kept;
     for (unsigned times = 0; times < 3; times++)
         demand_lowest(harness, workspace);
 }

@@ -44,4 +44,13 @@ struct stuck {
 
 struct stuck evaluator_stuck(const uint8_t *sheet, size_t sheet_length, const uint8_t *memory, const uint8_t *input);
 
+/* What else is to be said of an instant in rounds that is accepted: the kept wires whose cell a kind 18 gave, and those where one did so
+ * under a reset that fires; one bit each. */
+struct lasts {
+    uint64_t given;
+    uint64_t given_fresh;
+};
+
+struct lasts evaluator_lasts(const uint8_t *sheet, size_t sheet_length, const uint8_t *memory, const uint8_t *input);
+
 #endif

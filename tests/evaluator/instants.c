@@ -18,7 +18,7 @@ static uint32_t check_memory(const struct layout *layout, const uint8_t *memory,
         const uint32_t number = read_number(bytes + 1);
         bool valid = false;
         if (bytes[0] == 0)
-            valid = layout->sheet[layout->cell_place[cell]] == kind_fby && number == 0;
+            valid = belongs_to_fby(layout, cell) && number == 0;
         else if (bytes[0] == 1)
             valid = layout->cell_type[cell] == type_number || number <= 1;
         if (!valid)
@@ -179,24 +179,45 @@ uint32_t evaluator_rounds(const uint8_t *sheet, size_t sheet_length, uint8_t *me
     return refused != 0 ? refused : rounds;
 }
 
+/* An instant in rounds on a copy of the memory, to be asked what else is to be said of it. */
+struct trial {
+    struct layout layout;
+    struct value values[2][most_wires];
+    uint8_t memory[bytes_of_cell * most_cells];
+    struct instant instant;
+};
+
+static void make_trial(struct trial *trial, const uint8_t *sheet, size_t sheet_length, const uint8_t *memory, const uint8_t *input)
+{
+    (void)read_sheet(&trial->layout, sheet, sheet_length);
+    memcpy(trial->memory, memory, (size_t)bytes_of_cell * trial->layout.cells);
+    trial->instant = (struct instant){.layout = &trial->layout, .input = input, .memory = trial->memory};
+    (void)work_out_rounds(&trial->instant, trial->values);
+}
+
 struct stuck evaluator_stuck(const uint8_t *sheet, size_t sheet_length, const uint8_t *memory, const uint8_t *input)
 {
-    struct layout layout;
-    (void)read_sheet(&layout, sheet, sheet_length);
-    struct value values[2][most_wires];
-    uint8_t copy[bytes_of_cell * most_cells];
-    memcpy(copy, memory, (size_t)bytes_of_cell * layout.cells);
-    struct instant instant = {.layout = &layout, .input = input, .memory = copy};
+    struct trial trial;
     uint64_t waits[most_wires];
     uint64_t reads[most_wires];
-    (void)work_out_rounds(&instant, values);
-    find_waits(&instant, waits);
-    for (unsigned wire = 0; wire < layout.wires; wire++)
-        reads[wire] = instant.wires[wire].known ? 0 : layout.wire_reads[wire];
-    const unsigned wire = lowest_on_loop(waits, layout.wires);
-    return (struct stuck){.lowest_unknown = lowest_unknown(&instant),
-                          .by_reads = lowest_on_loop(reads, layout.wires),
+    make_trial(&trial, sheet, sheet_length, memory, input);
+    const unsigned wires = trial.layout.wires;
+    find_waits(&trial.instant, waits);
+    for (unsigned wire = 0; wire < wires; wire++)
+        reads[wire] = trial.instant.wires[wire].known ? 0 : trial.layout.wire_reads[wire];
+    const unsigned wire = lowest_on_loop(waits, wires);
+    return (struct stuck){.lowest_unknown = lowest_unknown(&trial.instant),
+                          .by_reads = lowest_on_loop(reads, wires),
                           .waits_directly = (waits[wire] >> wire & 1) != 0};
+}
+
+struct lasts evaluator_lasts(const uint8_t *sheet, size_t sheet_length, const uint8_t *memory, const uint8_t *input)
+{
+    struct trial trial;
+    make_trial(&trial, sheet, sheet_length, memory, input);
+    /* What stands under a pre or on the right of an fby is worked out by the storing alone. */
+    store_cells(&trial.instant);
+    return trial.instant.lasts;
 }
 
 /* The instant on a copy of the memory. One longer than any sheet has cells for is refused by its length alone. */

@@ -9,7 +9,7 @@
 
 #include <stdbool.h>
 
-/* The first two are the type bytes of a sheet; the third stands in the table of shapes for
+/* The first two are the plain types of a sheet; the third stands in the table of shapes for
  * "the type asked of the whole expression". */
 enum type { type_boolean = 0, type_number = 1, type_asked = 2 };
 
@@ -26,16 +26,17 @@ struct layout {
     size_t length;
     size_t place; /* the byte to be read next */
     const uint8_t *input_types;
-    const uint8_t *wire_types;
+    const uint8_t *wire_types; /* type bytes: some of the wires may be kept */
     const uint8_t *output_wires;
     unsigned inputs;
     unsigned wires;
     unsigned outputs;
-    unsigned cells;
+    unsigned cells;     /* those of all kept wires from the start, and those of the expressions read */
+    unsigned next_cell; /* the number that the next one gets */
     uint16_t wire_place[most_wires];
-    uint8_t wire_first_cell[most_wires];
-    uint64_t wire_reads[most_wires]; /* the wires it reads within the instant, one bit each */
-    uint16_t cell_place[most_cells];
+    uint8_t wire_first_cell[most_wires]; /* of its expression */
+    uint64_t wire_reads[most_wires];     /* the wires it reads within the instant, one bit each */
+    uint16_t cell_place[most_cells];     /* of the expression that owns it; 0, where none begins, for that of a kept wire */
     uint8_t cell_type[most_cells];
 };
 
@@ -52,12 +53,26 @@ struct instant {
     unsigned next_cell;
     const struct value *wires;
     const uint8_t *input;
-    uint8_t *memory; /* written by the storing alone */
+    uint8_t *memory;    /* written by the storing alone */
+    struct lasts lasts; /* met so far */
 };
 
 static inline bool owns_cell(unsigned kind)
 {
-    return kind >= kind_boolean_pre;
+    return kind >= kind_boolean_pre && kind <= kind_fby;
+}
+
+/* Whether a cell belongs to an fby: only then it may have mark 0. */
+static inline bool belongs_to_fby(const struct layout *layout, unsigned cell)
+{
+    const unsigned place = layout->cell_place[cell];
+    return place != 0 && layout->sheet[place] == kind_fby;
+}
+
+/* The cell of a kept wire is numbered just before the cells of the wire's expression. */
+static inline unsigned kept_cell(const struct layout *layout, unsigned wire)
+{
+    return layout->wire_first_cell[wire] - 1u;
 }
 
 /* The constant of a pre, given where its kind byte lies. */
@@ -106,7 +121,7 @@ void find_waits(struct instant *instant, uint64_t *waits);
 
 void start_cell(const struct layout *layout, unsigned cell, uint8_t *memory);
 
-/* Stores the cells of all wires, whose finished values, all known, are the instant's. */
+/* Stores the cells of all wires, kept ones and those of expressions; the finished values, all known, are the instant's. */
 void store_cells(struct instant *instant);
 
 #endif

@@ -3,7 +3,7 @@
  */
 #include "evaluator/internal.h"
 
-/* Wires and inputs stand here with the type asked: their own type is looked up in the header. */
+/* Wires, inputs and lasts stand here with the type asked: their own type is looked up in the header. */
 const struct shape shapes[] = {
     [kind_boolean] = {1, 0, type_boolean, {0}},
     [kind_number] = {4, 0, type_number, {0}},
@@ -22,7 +22,8 @@ const struct shape shapes[] = {
     [kind_reset] = {0, 2, type_asked, {type_boolean, type_asked}},
     [kind_boolean_pre] = {1, 1, type_boolean, {type_boolean}},
     [kind_number_pre] = {4, 1, type_number, {type_number}},
-    [kind_fby] = {0, 2, type_asked, {type_asked, type_asked}}
+    [kind_fby] = {0, 2, type_asked, {type_asked, type_asked}},
+    [kind_last] = {1, 0, type_asked, {0}}
 };
 
 static uint32_t read_count(struct layout *layout, unsigned least, unsigned most, unsigned *count)
@@ -36,16 +37,19 @@ static uint32_t read_count(struct layout *layout, unsigned least, unsigned most,
     return 0;
 }
 
-static uint32_t read_types(struct layout *layout, unsigned count, const uint8_t **types)
+/* The cell of a kept wire counts as present from its type byte on, and so from the start of the expressions. */
+static uint32_t read_types(struct layout *layout, unsigned count, unsigned highest, const uint8_t **types)
 {
-    *types = layout->sheet + layout->place;
-    for (unsigned index = 0; index < count; index++) {
-        if (layout->place >= layout->length)
+    size_t place = layout->place;
+    *types = layout->sheet + place;
+    for (unsigned index = 0; index < count; index++, place++) {
+        if (place >= layout->length)
             return refusal(2, layout->length);
-        if (layout->sheet[layout->place] > type_number)
-            return refusal(4, layout->place);
-        layout->place++;
+        if (layout->sheet[place] > highest)
+            return refusal(4, place);
+        layout->cells += is_kept(layout->sheet[place]);
     }
+    layout->place = place;
     return 0;
 }
 
@@ -69,11 +73,11 @@ static uint32_t read_header(struct layout *layout)
 {
     uint32_t refused = read_count(layout, 0, most_inputs, &layout->inputs);
     if (refused == 0)
-        refused = read_types(layout, layout->inputs, &layout->input_types);
+        refused = read_types(layout, layout->inputs, highest_input_type, &layout->input_types);
     if (refused == 0)
         refused = read_count(layout, 1, most_wires, &layout->wires);
     if (refused == 0)
-        refused = read_types(layout, layout->wires, &layout->wire_types);
+        refused = read_types(layout, layout->wires, highest_wire_type, &layout->wire_types);
     if (refused == 0)
         refused = read_count(layout, 1, most_outputs, &layout->outputs);
     if (refused == 0)
@@ -91,11 +95,15 @@ static uint32_t check_body(const struct layout *layout, size_t place, unsigned a
     if (kind == kind_wire) {
         if (body >= layout->wires)
             return refusal(7, place);
-        type = layout->wire_types[body];
+        type = plain_type(layout->wire_types[body]);
     } else if (kind == kind_input) {
         if (body >= layout->inputs)
             return refusal(7, place);
         type = layout->input_types[body];
+    } else if (kind == kind_last) {
+        if (body >= layout->wires || !is_kept(layout->wire_types[body]))
+            return refusal(7, place);
+        type = plain_type(layout->wire_types[body]);
     } else if (body > 1) {
         return refusal(7, place);
     }
@@ -109,13 +117,20 @@ static uint32_t check_kind(const struct layout *layout, unsigned level)
     if (place >= layout->length)
         return refusal(2, layout->length);
     const unsigned kind = layout->sheet[place];
-    if (kind > kind_fby)
+    if (kind > kind_last)
         return refusal(6, place);
     if (level > deepest_level)
         return refusal(8, place);
     if (owns_cell(kind) && layout->cells == most_cells)
         return refusal(10, place);
     return layout->length - place - 1 < shapes[kind].body ? refusal(2, layout->length) : 0;
+}
+
+static void number_cell(struct layout *layout, size_t place, unsigned type)
+{
+    layout->cell_place[layout->next_cell] = (uint16_t)place;
+    layout->cell_type[layout->next_cell] = (uint8_t)type;
+    layout->next_cell++;
 }
 
 /* Notes what the expression that comes next, kind byte and body, tells, and moves behind its body. "Delayed" says that the place is
@@ -128,9 +143,8 @@ static void note_expression(struct layout *layout, unsigned wire, unsigned asked
     if (kind == kind_wire && !delayed)
         layout->wire_reads[wire] |= UINT64_C(1) << layout->sheet[place + 1];
     if (owns_cell(kind)) {
-        layout->cell_place[layout->cells] = (uint16_t)place;
-        layout->cell_type[layout->cells] = (uint8_t)asked;
         layout->cells++;
+        number_cell(layout, place, asked);
     }
 }
 
@@ -152,6 +166,16 @@ static uint32_t read_expression(struct layout *layout, unsigned wire, unsigned a
     return refused;
 }
 
+/* Notes where the expression of a wire begins; the cell of a kept wire gets its number before those of the expression. */
+static void note_wire(struct layout *layout, unsigned wire)
+{
+    if (is_kept(layout->wire_types[wire]))
+        number_cell(layout, 0, plain_type(layout->wire_types[wire]));
+    layout->wire_place[wire] = (uint16_t)layout->place;
+    layout->wire_first_cell[wire] = (uint8_t)layout->next_cell;
+    layout->wire_reads[wire] = 0;
+}
+
 uint32_t read_sheet(struct layout *layout, const uint8_t *sheet, size_t sheet_length)
 {
     if (sheet_length == 0 || sheet_length > longest_sheet)
@@ -160,14 +184,13 @@ uint32_t read_sheet(struct layout *layout, const uint8_t *sheet, size_t sheet_le
     layout->length = sheet_length;
     layout->place = 0;
     layout->cells = 0;
+    layout->next_cell = 0;
     uint32_t refused = read_header(layout);
     if (refused != 0)
         return refused;
     for (unsigned wire = 0; wire < layout->wires; wire++) {
-        layout->wire_place[wire] = (uint16_t)layout->place;
-        layout->wire_first_cell[wire] = (uint8_t)layout->cells;
-        layout->wire_reads[wire] = 0;
-        refused = read_expression(layout, wire, layout->wire_types[wire], 1, false);
+        note_wire(layout, wire);
+        refused = read_expression(layout, wire, plain_type(layout->wire_types[wire]), 1, false);
         if (refused != 0)
             return refused;
     }

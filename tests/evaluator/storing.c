@@ -1,8 +1,8 @@
 /* What an instant stores: each expression is advanced under the finished values, which gives its value and writes its cells.
  * Rests on reading.c for the places of the cells and on values.c for what has no cells of its own.
  *
- * A cell is read before the operand behind it is advanced and written afterwards. Its owner is its only reader, so the old memory is
- * overwritten in place.
+ * The cell of an expression is read before the operand behind it is advanced and written afterwards. Its owner is its only reader, so the
+ * old memory is overwritten in place. A kept cell has readers everywhere: it is written when all expressions have been advanced.
  */
 #include "evaluator/internal.h"
 
@@ -16,12 +16,12 @@ static void write_cell(uint8_t *cell, uint8_t mark, uint32_t number)
 
 void start_cell(const struct layout *layout, unsigned cell, uint8_t *memory)
 {
-    const uint8_t *const owner = layout->sheet + layout->cell_place[cell];
+    const unsigned place = layout->cell_place[cell];
     uint8_t *const bytes = memory + bytes_of_cell * cell;
-    if (owner[0] == kind_fby)
+    if (belongs_to_fby(layout, cell))
         write_cell(bytes, 0, 0);
     else
-        write_cell(bytes, 1, starting_constant(owner));
+        write_cell(bytes, 1, place != 0 ? starting_constant(layout->sheet + place) : 0);
 }
 
 /* Goes over an arm that is not chosen. Its memory is kept, or started again if fresh. */
@@ -109,8 +109,13 @@ static uint32_t advance(struct instant *instant, bool fresh)
 
 void store_cells(struct instant *instant)
 {
-    for (unsigned wire = 0; wire < instant->layout->wires; wire++) {
+    const struct layout *const layout = instant->layout;
+    for (unsigned wire = 0; wire < layout->wires; wire++) {
         move_to_wire(instant, wire);
         (void)advance(instant, false);
+    }
+    for (unsigned wire = 0; wire < layout->wires; wire++) {
+        if (is_kept(layout->wire_types[wire]))
+            write_cell(instant->memory + bytes_of_cell * kept_cell(layout, wire), 1, instant->wires[wire].number);
     }
 }

@@ -137,6 +137,15 @@ static struct value value_of_fby(struct instant *instant, bool fresh)
     return value;
 }
 
+/* Fresh or not, the value is that of the cell, since no reset touches it. */
+static struct value value_of_last(struct instant *instant, unsigned wire, bool fresh)
+{
+    const uint8_t *const cell = instant->memory + bytes_of_cell * kept_cell(instant->layout, wire);
+    instant->lasts.given |= UINT64_C(1) << wire;
+    instant->lasts.given_fresh |= (uint64_t)fresh << wire;
+    return known_value(read_number(cell + 1));
+}
+
 struct value value_of(struct instant *instant, bool fresh)
 {
     const uint8_t *const expression = instant->next;
@@ -165,6 +174,8 @@ struct value value_of(struct instant *instant, bool fresh)
         return value_of_pre(instant, expression, fresh);
     case kind_fby:
         return value_of_fby(instant, fresh);
+    case kind_last:
+        return value_of_last(instant, expression[1], fresh);
     default:
         return value_of_two_operands(instant, kind, fresh);
     }

@@ -1,5 +1,5 @@
-/* Sheets that are damaged: bytes changed, cut, put in or left out, counts that lie, bytes at random. Rests on sheets.c for a sheet
- * and where its header ends.
+/* Sheets that are damaged: bytes changed, cut, put in or left out, counts that lie, other types, bytes at random. Rests on sheets.c for a
+ * sheet and where its header ends.
  */
 #include "generator/damage.h"
 
@@ -7,10 +7,10 @@
 
 static unsigned strange_byte(struct random *random)
 {
-    static const uint8_t strange[] = {0, 1, 2, 16, 17, 18, 63, 64, 65, 128, 255};
+    static const uint8_t strange[] = {0, 1, 2, 3, 4, 16, 17, 18, 19, 63, 64, 65, 128, 255};
     if (percent(random, 30))
         return strange[below(random, sizeof strange)];
-    return below(random, percent(random, 70) ? 19 : 256);
+    return below(random, percent(random, 70) ? 20 : 256);
 }
 
 static void insert_byte(struct buffer *buffer, size_t place, unsigned byte)
@@ -64,6 +64,16 @@ static void damage_count(struct generator *generator)
     generator->sheet->bytes[places[below(random, 3)]] = lies[below(random, sizeof lies)];
 }
 
+/* Another type of an input or a wire: for an input kept is none, and a wire may become kept or be so no more. */
+static void damage_type(struct generator *generator)
+{
+    static const uint8_t others[] = {0, 1, 2, 2, 3, 3, 4, 5, 255};
+    struct random *const random = generator->random;
+    const unsigned inputs = generator->plan.inputs;
+    const unsigned index = below(random, inputs + generator->plan.wires);
+    generator->sheet->bytes[index < inputs ? 1 + index : 2 + index] = others[below(random, sizeof others)];
+}
+
 static void generate_random_bytes(struct random *random, struct buffer *sheet)
 {
     const unsigned length = below(random, 40);
@@ -80,7 +90,7 @@ static void generate_random_expressions(struct generator *generator)
     const unsigned length = below(random, 30);
     sheet->length = 1 + generator->plan.inputs + 1 + generator->plan.wires + 1 + generator->plan.outputs;
     for (unsigned index = 0; index < length; index++)
-        append(sheet, below(random, percent(random, 90) ? 18 : 256));
+        append(sheet, below(random, percent(random, 90) ? 19 : 256));
 }
 
 void damage_sheet(struct generator *generator)
@@ -88,9 +98,11 @@ void damage_sheet(struct generator *generator)
     struct random *const random = generator->random;
     struct buffer *const sheet = generator->sheet;
     const unsigned manner = below(random, 100);
-    if (manner < 60) {
+    if (manner < 52) {
         for (unsigned times = percent(random, 70) ? 1 : between(random, 2, 4); times != 0; times--)
             damage_once(random, sheet);
+    } else if (manner < 62) {
+        damage_type(generator);
     } else if (manner < 70) {
         damage_count(generator);
     } else if (manner < 80) {

@@ -1,4 +1,4 @@
-/* Plans of sheets, drawn at random: many small sheets, some deep, wide, full of cells or long. Rests on random.c. */
+/* Plans of sheets, drawn at random: many small sheets, some deep, wide, full of cells or of kept wires, or long. Rests on random.c. */
 #include "generator/sheets.h"
 
 static void plan_small(struct random *random, struct plan *plan)
@@ -40,6 +40,17 @@ static void plan_full_of_cells(struct random *random, struct plan *plan)
     plan->cells_wanted = between(random, most_cells - 1, most_cells + 2);
 }
 
+/* With as many kept wires as there may be cells, or nearly so. */
+static void plan_full_of_kept(struct random *random, struct plan *plan)
+{
+    plan->wires = percent(random, 60) ? most_wires : between(random, 55, most_wires);
+    plan->deepest = between(random, 1, 4);
+    plan->wire_bytes = 15;
+    plan->cell_share = between(random, 20, 60);
+    plan->cells_wanted = between(random, most_cells - 1, most_cells + 2);
+    plan->kept_share = percent(random, 50) ? 100 : between(random, 80, 99);
+}
+
 static void plan_long(struct random *random, struct plan *plan)
 {
     plan->wires = between(random, 20, 64);
@@ -56,18 +67,29 @@ static void choose_size(struct random *random, struct plan *plan)
     plan->sheet_bytes = 3500;
     plan->cell_share = between(random, 5, 40);
     plan->leaf_share = between(random, 10, 50);
-    if (size < 50)
+    if (size < 48)
         plan_small(random, plan);
-    else if (size < 70)
+    else if (size < 68)
         plan_middling(random, plan);
-    else if (size < 83)
+    else if (size < 80)
         plan_deep(random, plan);
-    else if (size < 91)
+    else if (size < 88)
         plan_wide(random, plan);
-    else if (size < 99)
+    else if (size < 95)
         plan_full_of_cells(random, plan);
+    else if (size < 99)
+        plan_full_of_kept(random, plan);
     else
         plan_long(random, plan);
+}
+
+/* Half of the sheets have no kept wires. */
+static void choose_kept(struct random *random, struct plan *plan)
+{
+    if (plan->kept_share == 0 && percent(random, 50))
+        plan->kept_share = between(random, 10, 90);
+    plan->last_share = between(random, 10, 60);
+    plan->stray_share = percent(random, 15) ? between(random, 1, 20) : 0;
 }
 
 static enum reading choose_reading(struct random *random)
@@ -84,6 +106,7 @@ void choose_plan(struct random *random, struct plan *plan)
 {
     *plan = (struct plan){0};
     choose_size(random, plan);
+    choose_kept(random, plan);
     plan->inputs = percent(random, 90) ? below(random, 6) : between(random, 6, most_inputs);
     plan->outputs = between(random, 1, plan->wires < most_outputs ? plan->wires : most_outputs);
     plan->wild_share = between(random, 1, 20);

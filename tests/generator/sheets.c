@@ -52,6 +52,34 @@ static bool generate_input(struct generator *generator, unsigned asked)
     return true;
 }
 
+static void note_last(struct generator *generator, unsigned wire)
+{
+    generator->lasts[generator->wire] |= UINT64_C(1) << wire;
+    generator->above_lasts |= generator->above;
+}
+
+/* Answers whether a kept wire of the type asked was found; where it strays, any wire will do, also one that is not there. */
+static bool generate_last(struct generator *generator, unsigned asked)
+{
+    struct random *const random = generator->random;
+    const unsigned wires = generator->plan.wires;
+    const bool stray = percent(random, generator->plan.stray_share);
+    for (unsigned attempt = 0; attempt < 6; attempt++) {
+        const unsigned wire = below(random, stray ? wires + 2 : wires);
+        const bool fits = wire < wires && generator->kept[wire] && generator->wire_types[wire] == asked;
+        if (!fits && !stray)
+            continue;
+        append(generator->sheet, 18);
+        append(generator->sheet, wire);
+        if (fits)
+            note_last(generator, wire);
+        else
+            generator->strayed = true;
+        return true;
+    }
+    return false;
+}
+
 static void append_constant(struct generator *generator, unsigned type)
 {
     if (type == 0)
@@ -63,6 +91,8 @@ static void append_constant(struct generator *generator, unsigned type)
 static void generate_leaf(struct generator *generator, unsigned asked, bool delayed)
 {
     struct random *const random = generator->random;
+    if (generator->plan.kept_share != 0 && percent(random, generator->plan.last_share) && generate_last(generator, asked))
+        return;
     if (percent(random, generator->plan.wire_share) && generate_wire(generator, asked, delayed))
         return;
     if (percent(random, 70) && generate_input(generator, asked))
@@ -76,7 +106,7 @@ static unsigned choose_kind(struct generator *generator, unsigned asked)
     static const uint8_t boolean_kinds[] = {4, 6, 7, 10, 11, 12, 13, 13, 14, 14};
     static const uint8_t number_kinds[] = {5, 8, 8, 9, 12, 13, 13, 14, 14};
     struct random *const random = generator->random;
-    if (generator->cells < generator->plan.cells_wanted && percent(random, generator->plan.cell_share))
+    if (generator->cells + generator->kept_to_come < generator->plan.cells_wanted && percent(random, generator->plan.cell_share))
         return below(random, 2) == 0 ? 17 : 15 + asked;
     if (asked == 0)
         return boolean_kinds[below(random, sizeof boolean_kinds)];
@@ -99,25 +129,46 @@ static unsigned type_of_operand(unsigned kind, unsigned operand, unsigned asked)
     return asked;
 }
 
+/* What an operand stands under, one bit or none. */
+static unsigned above_operand(unsigned kind, unsigned operand)
+{
+    if (kind == 15 || kind == 16)
+        return 1u << above_pre;
+    if (kind == 17)
+        return 1u << (operand == 0 ? above_left_of_fby : above_right_of_fby);
+    if (kind < 12)
+        return 0;
+    if (operand == 0)
+        return 1u << above_condition;
+    return 1u << (kind == 14 ? above_reset : above_arm);
+}
+
+static void note_cell(struct generator *generator, unsigned kind, unsigned type)
+{
+    generator->cell_kind[generator->cells] = (uint8_t)kind;
+    generator->cell_type[generator->cells] = (uint8_t)type;
+    generator->cells++;
+}
+
 static void generate_node(struct generator *generator, unsigned kind, unsigned asked,
                           unsigned level, bool delayed, bool spine)
 {
     const unsigned operands = count_of_operands(kind);
     const unsigned spine_operand = spine ? below(generator->random, operands) : operands;
+    const unsigned above = generator->above;
     append(generator->sheet, kind);
-    if (kind >= 15) {
-        generator->cell_kind[generator->cells] = (uint8_t)kind;
-        generator->cell_type[generator->cells] = (uint8_t)asked;
-        generator->cells++;
-    }
+    if (kind >= 15)
+        note_cell(generator, kind, asked);
     if (kind == 15 || kind == 16)
         append_constant(generator, asked);
     for (unsigned operand = 0; operand < operands; operand++) {
         const bool operand_delayed = delayed || kind == 15 || kind == 16 ||
                                      (kind == 17 && operand == 1);
+        generator->above = above | above_operand(kind, operand);
         generate_expression(generator, type_of_operand(kind, operand, asked), level + 1,
                             operand_delayed, operand == spine_operand);
     }
+    generator->above = above;
 }
 
 static void generate_expression(struct generator *generator, unsigned asked, unsigned level,
@@ -139,6 +190,11 @@ static void generate_wire_expression(struct generator *generator, unsigned wire)
     const unsigned asked = generator->wire_types[wire];
     generator->wire = wire;
     generator->reads[wire] = 0;
+    if (generator->kept[wire]) {
+        generator->kept_cell[wire] = generator->cells;
+        generator->kept_to_come--;
+        note_cell(generator, 18, asked);
+    }
     generator->wire_end = generator->sheet->length + generator->plan.wire_bytes;
     generator->falling = false;
     if (generator->plan.reading != reading_two_way) {
@@ -148,9 +204,11 @@ static void generate_wire_expression(struct generator *generator, unsigned wire)
     append(generator->sheet, 13);
     append(generator->sheet, 3);
     append(generator->sheet, 0);
+    generator->above = 1u << above_arm;
     generate_expression(generator, asked, 2, false, generator->plan.spine);
     generator->falling = true;
     generate_expression(generator, asked, 2, false, false);
+    generator->above = 0;
 }
 
 static void generate_header(struct generator *generator)
@@ -167,7 +225,9 @@ static void generate_header(struct generator *generator)
     for (unsigned wire = 0; wire < generator->plan.wires; wire++) {
         /* A chain wants wires of one type, or it would break off. */
         generator->wire_types[wire] = generator->plan.chain ? 1 : (uint8_t)below(random, 2);
-        append(sheet, generator->wire_types[wire]);
+        generator->kept[wire] = generator->plan.kept_share != 0 && percent(random, generator->plan.kept_share);
+        generator->kept_to_come += generator->kept[wire];
+        append(sheet, generator->wire_types[wire] + (generator->kept[wire] ? 2 : 0));
     }
     append(sheet, generator->plan.outputs);
     unsigned left = generator->plan.outputs;
@@ -194,5 +254,5 @@ bool generate_sheet(struct generator *generator)
     generate_header(generator);
     for (unsigned wire = 0; wire < generator->plan.wires; wire++)
         generate_wire_expression(generator, wire);
-    return generator->sheet->length <= longest_sheet && !generator->too_deep && generator->cells <= most_cells;
+    return generator->sheet->length <= longest_sheet && !generator->too_deep && !generator->strayed && generator->cells <= most_cells;
 }

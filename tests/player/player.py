@@ -14,8 +14,10 @@ PLAYER = ROOT / 'target/bin/player'
 MOST = 65536
 SEED = 1
 
-# Sheets, without their length: no inputs and a count of instants in two wires; one number that is given back; one Boolean that is.
+# Sheets, without their length: no inputs and a count of instants in two wires, and by a kept wire; one number that is given back; one
+# Boolean that is.
 COUNTING = bytes([0, 1, 1, 1, 0, 8, 16, 0, 0, 0, 0, 2, 0, 1, 1, 0, 0, 0])
+COUNTING_KEPT = bytes([0, 1, 3, 1, 0, 8, 18, 0, 1, 1, 0, 0, 0])
 ECHO = bytes([1, 1, 1, 1, 1, 0, 3, 0])
 ECHO_BOOLEAN = bytes([1, 0, 1, 0, 1, 0, 3, 0])
 # A wire that is itself, which stays unknown; one that stays unknown from the first true input on.
@@ -58,7 +60,8 @@ def edges():
         'length 65534, all its bytes': b'\xfe\xff' + bytes(65534),
         'length 4097': with_length(bytes(4097)),
         'a sheet refused': with_length(ECHO[:-1] + b'\x01'),
-        'a sheet refused, rows behind it': with_length(ECHO[:-2] + b'\x12\x00', bytes(12)),
+        'a sheet refused, rows behind it': with_length(ECHO[:-2] + b'\x13\x00', bytes(12)),
+        'kind 18 of a wire that is not kept': with_length(ECHO[:-2] + b'\x12\x00', bytes(12)),
         'no rows': with_length(ECHO),
         'numbers of every sign and length': with_length(ECHO, rows),
         'sixteen outputs, the least number': with_length(outputs, word(-2**31) * 3),
@@ -68,6 +71,7 @@ def edges():
         'an input of 256 for a Boolean, first': with_length(ECHO_BOOLEAN, word(256) + word(0)),
         'no inputs': with_length(COUNTING),
         'no inputs, bytes behind the sheet': with_length(COUNTING, bytes(range(23))),
+        'no inputs, a kept wire': with_length(COUNTING_KEPT),
         'no inputs, 20 at the first instant': with_length(LOOP, bytes(3)),
         '20 at the third instant': with_length(LOOP_LATER, word(0) + word(0) + word(1) + word(0)),
         'exactly 65536 bytes': full[:MOST],
@@ -87,7 +91,7 @@ def damaged(rng, data):
         at = rng.randrange(len(part) + 1)
         kind = rng.randrange(3)
         if kind == 0:
-            part[at:at + 1] = bytes([rng.choice([0, 1, 2, 3, 12, 13, 14, 17, rng.randrange(256)])])
+            part[at:at + 1] = bytes([rng.choice([0, 1, 2, 3, 12, 13, 14, 17, 18, rng.randrange(256)])])
         elif kind == 1:
             del part[at:at + rng.randrange(1, 6)]
         else:
@@ -96,20 +100,20 @@ def damaged(rng, data):
     return whole[:rng.randrange(len(whole) + 1)] if rng.random() < 0.1 else whole
 
 
-def expression(rng, number, inputs, wires, level):
-    """A random expression of a type, at most `level` levels deep."""
+def expression(rng, number, names, level):
+    """A random expression of a type, at most `level` levels deep; `names` has the types of what kinds 2, 3 and 18 may name."""
     def of(types):
-        return b''.join(expression(rng, t, inputs, wires, level - 1) for t in types)
+        return b''.join(expression(rng, t, names, level - 1) for t in types)
 
-    def named(kind, types):
-        fitting = [i for i, t in enumerate(types) if t == number]
+    def named(kind):
+        fitting = [i for i, t in enumerate(names[kind]) if t == number]
         return bytes([kind, rng.choice(fitting)]) if fitting else constant(0)
 
     def constant(kind):
         return bytes([kind + 1]) + word(rng.randrange(-3, 4)) if number else bytes([kind, rng.randrange(2)])
 
     if level == 1 or rng.random() < 0.3:
-        return rng.choice([constant(0), named(2, wires), named(3, inputs)])
+        return rng.choice([constant(0), named(2), named(3), named(18)])
     own = [(bytes([5]), [1]), (bytes([8]), [1, 1]), (bytes([9]), [1, 1])] if number else [
         (bytes([4]), [0]), (bytes([6]), [0, 0]), (bytes([7]), [0, 0]), (bytes([10]), [1, 1]), (bytes([11]), [1, 1])]
     shared = [(bytes([12]), [0, number, number]), (bytes([13]), [0, number, number]), (bytes([14]), [0, number]),
@@ -119,12 +123,14 @@ def expression(rng, number, inputs, wires, level):
 
 
 def well_formed(rng):
-    """A random sheet that is likely to pass the check, and rows for it."""
+    """A random sheet that is likely to pass the check, and rows for it; some wires may be kept, and kind 18 names these alone."""
     inputs = [rng.randrange(2) for _ in range(rng.randrange(4))]
-    wires = [rng.randrange(2) for _ in range(rng.randrange(1, 6))]
+    type_bytes = [rng.choice([0, 1, 0, 1, 2, 3]) for _ in range(rng.randrange(1, 6))]
+    wires = [t % 2 for t in type_bytes]
+    names = {2: wires, 3: inputs, 18: [t % 2 if t > 1 else None for t in type_bytes]}
     outputs = sorted(rng.sample(range(len(wires)), rng.randrange(1, len(wires) + 1)))
-    header = b''.join(bytes([len(part), *part]) for part in (inputs, wires, outputs))
-    sheet = header + b''.join(expression(rng, t, inputs, wires, rng.randrange(1, 5)) for t in wires)
+    header = b''.join(bytes([len(part), *part]) for part in (inputs, type_bytes, outputs))
+    sheet = header + b''.join(expression(rng, t, names, rng.randrange(1, 5)) for t in wires)
     row = lambda: b''.join(word(rng.choice([rng.randrange(-5, 6), rng.getrandbits(32)]) if t else rng.randrange(2)) for t in inputs)
     return with_length(sheet, b''.join(row() for _ in range(rng.randrange(12))) + rng.randbytes(rng.randrange(4)))
 

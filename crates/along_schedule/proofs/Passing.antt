@@ -14,7 +14,7 @@ use Rattle.kernel.specs.Laws.Demands.{givesOf, givenFinished, scheduled-accepte
 use Rattle.kernel.specs.declared.Scheduled.the-variants.{Refused, Accepted}
 use Rattle.schedule.specs.Orders.{orderedAnswer}
 use Rattle.schedule.specs.declared.Ordered.the-variants.{Refused as RefusedOrder, Passed as PassedOrder}
-use Rattle.leaves.specs.Words.{inputWords}
+use Rattle.leaves.specs.Words.{fixedWords}
 use Rattle.rounds.specs.Running.{Holds}
 use Rattle.rounds.specs.Outputs.{wordsOf}
 use Rattle.rounds.specs.Settled.{storedOf}
@@ -65,7 +65,7 @@ module _ {s memory input output places firsts reads start types outputs : List �
     pass-full = rw (g .wired) at (scheduled-accepted (given g) list schedule .1)
 
     module _ {bits : ℕ} {words : List ℕ} where
-      pub pass-holds : Holds (length types) (inputWords start) bits words (pass (given g .sheet) (given g .inputs) (given g .memory) list)
+      pub pass-holds : Holds (length types) (fixedWords start) bits words (pass (given g .sheet) (given g .inputs) (given g .memory) list)
           → HoldsFinished g bits words
       pass-holds h = rw (scheduled-accepted (given g) list schedule .0) at h
 

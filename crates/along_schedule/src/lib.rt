@@ -19,7 +19,7 @@ pub fn instant(
     let mut places = [0u16; 64];
     let mut firsts = [0u8; 64];
     let mut reads = [0u64; 64];
-    let mut words = [0u32; 80];
+    let mut words = [0u32; 144];
     match given::given_of(
         sheet,
         memory,

@@ -1,31 +1,28 @@
 -- What each function of the value cycle returns holds of every placement, from what its calls answer: one law to each return.
 use Prim.Native.Nat.{ℕ, _+_, _≤_, _<_}
-use mathlib.Core.Path.{_≡_, refl, sym, ap, subst, _∙_}
+use mathlib.Core.Path.{_≡_, refl, subst, _∙_}
 use mathlib.Core.Bool.{Bool, true, false, _||_, cond}
 use mathlib.Core.List.{List}
-use native.Mathlib.Omega.{arith}
 use lib.Dec.{eqb, ltb}
-use lib.ListN.{getD, take}
+use lib.ListN.{getD}
 use borrow.Author.Tests.{ne-eqb, ltb-true, ltb-false}
-use Rattle.sheet.specs.Data.{typeOfByte, datumOf, wordOf}
-use Rattle.sheet.specs.Kinds.{bodyOf, countOf, operandsOf}
+use Rattle.sheet.specs.Kinds.{bodyOf}
 use Rattle.sheet.specs.Memory.{cellWordAt}
 use Rattle.sheet.specs.Readings.{bodyAt}
 use Rattle.sheet_walk.specs.declared.skip.Skipped.{Skipped}
 use Rattle.kernel.specs.Operations.{unaryOf, binaryOf}
-use Rattle.kernel.specs.declared.Value.{Value}
 use Rattle.kernel.specs.declared.Value.the-variants.{Unknown}
 use Rattle.operations.specs.Words.{unaryWord, binaryWord}
 use Rattle.leaves.specs.declared.Valued.{Valued}
 use Rattle.leaves.specs.Words.{isSeen, preWord}
 use Rattle.expression.specs.Places.{Placement, wholeValue, Gives, Yields, unknown, known}
-use Rattle.leaves.specs.Leaves.{knownBy, leafValued}
+use Rattle.leaves.specs.Leaves.{knownBy, leafValued, lastValued}
 use Rattle.expression.proofs.Views.{placed, readable, own-types}
 use Rattle.expression.proofs.Views.{unary-view, binary-view, conditional-view, present-view, reset-view, fby-view, pre-view}
 use Rattle.expression.proofs.Values.{as-known, as-unknown, Answers, Walked, by-value, by-walk, value-behind, walk-behind}
 use Rattle.expression.proofs.Values.{unary-value, binary-value, choose-value, reset-value}
 use Rattle.expression.proofs.Giving.{unary-gives, binary-gives, conditional-gives, present-gives-first, present-gives-second}
-use Rattle.expression.proofs.Giving.{reset-gives, fby-left, fby-gives-left, fby-gives-cell, pre-gives, leaf-value, leaf-gives}
+use Rattle.expression.proofs.Giving.{reset-gives, fby-left, fby-gives-left, fby-gives-cell, pre-gives, leaf-value, leaf-gives, last-gives}
 
 module _ {sheet memory words : List ℕ} {bits level asked at cell : ℕ}
     (p : Placement sheet memory words bits level asked at cell) (fresh : Bool) where
@@ -38,6 +35,9 @@ module _ {sheet memory words : List ℕ} {bits level asked at cell : ℕ}
       by : (b : Bool) → knownBy bits kind (bodyAt sheet at) ≡ b → Yields p fresh (leafValued sheet words bits at cell)
       by true e = known e (leaf-gives p fresh below e)
       by false e = unknown e (leaf-value p fresh below ∙ rw e)
+
+  pub last-yields : kind ≡ 18 → {r : Valued} → r ≡ lastValued sheet words at cell → Yields p fresh r
+  last-yields of is = rw is (known refl (last-gives p fresh of))
 
   -- an operation on one or two operands
   module _ {a : Valued} (ha : Answers p (at + 1) cell fresh a) where

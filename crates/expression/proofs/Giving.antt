@@ -1,7 +1,7 @@
 -- A known whole from its known operands, by the kind: what both the value of an expression and its storing rest on.
 use Prim.Native.Nat.{ℕ, _+_, _*_, _≤_, _<_}
 use mathlib.Core.Path.{_≡_, refl, sym, ap, subst, _∙_}
-use mathlib.Core.Bool.{Bool, true, false, not, _||_, cond}
+use mathlib.Core.Bool.{Bool, true, false, _||_, cond}
 use mathlib.Core.List.{List}
 use native.Mathlib.Omega.{arith}
 use lib.Dec.{eqb, ltb}
@@ -18,17 +18,17 @@ use Rattle.sheet.specs.declared.Datum.{Datum}
 use Rattle.sheet.specs.declared.Cell.the-variants.{NotStarted, Started}
 use Rattle.sheet.specs.Typing.{unaryType, operandType}
 use Rattle.kernel.specs.Operations.{applyUnary, applyBinary, unaryOf, binaryOf}
-use Rattle.kernel.specs.Instant.{value, cellAt, heldOr}
+use Rattle.kernel.specs.Instant.{value, lastAt, cellAt, heldOr}
 use Rattle.kernel.specs.Laws.Typing.{unary-type, binary-type}
-use Rattle.kernel.specs.declared.Value.the-variants.{Unknown, Known}
+use Rattle.kernel.specs.declared.Value.the-variants.{Known}
 use Rattle.operations.specs.Words.{unaryWord, binaryWord}
 use Rattle.leaves.specs.Words.{isSeen, preWord}
 use Rattle.expression.specs.Places.{Placement, valueOfWord, wholeValue, Gives}
-use Rattle.leaves.specs.Leaves.{knownBy, leafWord}
+use Rattle.leaves.specs.Leaves.{knownBy, leafWord, lastWord}
 use Rattle.expression.proofs.Rows.{unary-typed, unary-operand, binary-typed, binary-operands}
 use Rattle.expression.proofs.Views.{opened, placed, Alone, own-cell, unary-types, binary-types}
 use Rattle.expression.proofs.Views.{unary-view, binary-view, conditional-view, present-view, reset-view, fby-view, pre-view}
-use Rattle.expression.proofs.Views.{constant-view, wire-view, input-view}
+use Rattle.expression.proofs.Views.{constant-view, wire-view, input-view, last-view, last-kept}
 use Rattle.expression.proofs.Values.{operandValue, Ended, unary-value, binary-value, choose-value, reset-value, fby-value, finished}
 
 -- the word that a condition takes stands for the datum that it takes
@@ -127,7 +127,7 @@ module _ {sheet memory words : List ℕ} {bits level asked at cell : ℕ}
   -- the cell that the code reads is the instant's
   module _ (of : kind ≡ 17) where
     own : readCell (typeOfByte asked) memory cell ≡ cellAt (p .now .memory) cell
-    own = own-cell p (omega arith) .reads
+    own = own-cell p (omega arith) (omega arith) .reads
 
     -- where the cell is not seen as started, the value is the left operand's
     pub fby-left : isSeen fresh memory cell ≡ false → wholeValue p fresh ≡ operandValue p fresh (fby-view p of .first)
@@ -152,7 +152,7 @@ module _ {sheet memory words : List ℕ} {bits level asked at cell : ℕ}
   pre-gives low high is e =
       let w = pre-view p low high in
       let t = typeOfByte asked in
-      let held = rw (own-cell p low .reads) at (held-word t fresh sheet memory at cell (datumOf t (bodyAt sheet at)) refl) in
+      let held = rw (own-cell p low (omega arith) .reads) at (held-word t fresh sheet memory at cell (datumOf t (bodyAt sheet at)) refl) in
       finished p fresh (w .ends) (ap (λ x. value (p .now) fresh x cell) (w .ends .tree) ∙ rw is (ap Known held)) (e .next) (e .count)
 
   -- a constant, a wire or an input
@@ -181,6 +181,16 @@ module _ {sheet memory words : List ℕ} {bits level asked at cell : ℕ}
           let w = input-view p of in
           leaf-valued (w .leaf)
           (rw (f, eq-eqb kind 3 of) (ap Known (sym (p .stands .onInputs (bodyAt sheet at) (w .within) ∙ rw (w .typed)))))
+
+  -- what the cell of a kept wire holds
+  pub last-gives : kind ≡ 18 → Gives p fresh (lastWord sheet words at) (at + 2) cell
+  unfolding value
+  last-gives is =
+      let w = last-view p is in
+      let held : lastAt (p .now .lasts) (bodyAt sheet at) ≡ datumOf (typeOfByte asked) (lastWord sheet words at) =
+      p .stands .onLasts (bodyAt sheet at) (w .within) (last-kept p is) ∙ rw (w .typed) in
+      let end : at + 2 ≡ at + 1 + bodyOf kind = rw is (omega arith) in
+      finished p fresh (w .leaf) (ap (λ e. value (p .now) fresh e cell) (w .leaf .tree) ∙ ap Known held) end refl
 
   -- it ends behind its body and owns no cell
   pub leaf-ends : kind < 4 → (p .next ≡ at + 1 + bodyOf kind) × (p .count ≡ cell)

@@ -1,5 +1,5 @@
 -- What the table of kinds says of the kinds that the code takes together.
-use Prim.Native.Nat.{ℕ, _+_, _-_, _≤_, _<_}
+use Prim.Native.Nat.{ℕ, _≤_, _<_}
 use mathlib.Core.Path.{_≡_, refl, sym, ap}
 use mathlib.Core.List.{List, [], _∷_}
 use native.Mathlib.Omega.{arith}
@@ -7,7 +7,7 @@ use lib.ListN.{length, getD, take}
 use Rattle.sheet.specs.Data.{ValueType, boolean, number, typeOfByte, typeOf, datumOf}
 use Rattle.sheet.specs.Expressions.{constant, unary, binary, pre}
 use Rattle.sheet.specs.Expressions.{CellForm, preCell, fbyCell}
-use Rattle.sheet.specs.Kinds.{Meaning, operand, bodyOf, cellsOf, countOf, operandsOf, foundOf, meaningOf, kindCount}
+use Rattle.sheet.specs.Kinds.{Meaning, operand, bodyOf, cellsOf, countOf, operandsOf, foundOf, meaningOf}
 use Rattle.sheet.specs.Typing.{unaryType, operandType, resultType}
 use Rattle.sheet.specs.Laws.Readings.{ownForms, kinds-between, _▸_, end}
 use Rattle.kernel.specs.Operations.{unaryOf, binaryOf}
@@ -100,7 +100,7 @@ datum-typed : (type : ValueType) (body : ℕ) → typeOf (datumOf type body) ≡
 datum-typed boolean body = refl
 datum-typed number body = refl
 
-pub cell-row : (type : ValueType) (body k : ℕ) → 15 ≤ k → k < kindCount → CellRow type body k
+pub cell-row : (type : ValueType) (body k : ℕ) → 15 ≤ k → k < 18 → CellRow type body k
 cell-row type body = kinds-between (CellRow type body) (
     record { form = preCell (datumOf type body); owns = refl; typed = datum-typed type body }
     ▸ record { form = preCell (datumOf type body); owns = refl; typed = datum-typed type body }

@@ -9,11 +9,11 @@ use native.Mathlib.Omega.{arith}
 use lib.ListN.{length, getD, take}
 use lib.Seq.{take-all}
 use lib.Dec.{ltb}
-use borrow.Author.Tests.{ltb-true, ltb-false}
-use Rattle.sheet.specs.Data.{typeOfByte, datumOf}
-use Rattle.sheet.specs.Expressions.{Expression, constant, wire, input, unary, binary, choose, reset, pre, fby, conditional, present}
+use borrow.Author.Tests.{ltb-true, ltb-false, not-false}
+use Rattle.sheet.specs.Data.{typeOfByte, plainByte, isKept, datumOf}
+use Rattle.sheet.specs.Expressions.{Expression, constant, wire, input, last, unary, binary, choose, reset, pre, fby, conditional, present}
 use Rattle.sheet.specs.Expressions.{CellForm, cellForms, cellCount}
-use Rattle.sheet.specs.Kinds.{bodyOf, cellsOf, countOf, operandsOf, meaningOf}
+use Rattle.sheet.specs.Kinds.{bodyOf, cellsOf, countOf, operandsOf, meaningOf, kindCount}
 use Rattle.sheet.specs.Readings.{got, readEach, readExpression, bodyAt, Whole}
 use Rattle.sheet.specs.Sheets.{formsOf}
 use Rattle.sheet_walk.specs.Skips.{Readable}
@@ -24,7 +24,7 @@ use Rattle.sheet.specs.declared.Cell.{Cell}
 use Rattle.kernel.specs.Instant.{cellAt}
 use Rattle.kernel.specs.Operations.{unaryOf, binaryOf}
 use Rattle.expression.proofs.Rows.{unary-row, binary-row, pre-row, constant-row, cell-row, no-type, one-type, two-types}
-use Rattle.leaves.specs.Leaves.{Leaf}
+use Rattle.leaves.specs.Leaves.{Leaf, Last}
 use Rattle.expression.specs.Places.{CellStands, CellsStand, none, more, Placement}
 
 -- the cells of two runs of forms stand one run behind the other
@@ -36,9 +36,16 @@ cells-split {k = k} (f ∷ fs) gs (more c s) =
     let e : k + suc (length fs) ≡ suc k + length fs = omega arith in
     (more c (both .0), rw e (both .1))
 
-first-stands : {memory : List ℕ} {cells : List Cell} {k : ℕ} {f : CellForm} {fs : List CellForm} → CellsStand memory cells k (f ∷ fs)
+pub first-stands : {memory : List ℕ} {cells : List Cell} {k : ℕ} {f : CellForm} {fs : List CellForm} → CellsStand memory cells k (f ∷ fs)
     → CellStands memory k f (cellAt cells k)
 first-stands (more c s) = c
+
+-- from 17 on a kind is 17 or 18
+pub below-last : {k : ℕ} → k < kindCount → (k ≡ 18 → ⊥) → k < 18
+below-last l other = omega arith
+
+pub only-fby : {k : ℕ} → 17 ≤ k → k < kindCount → (k ≡ 18 → ⊥) → k ≡ 17
+only-fby low high other = omega arith
 
 -- an expression that reads has a level for itself
 level-view : (inputs wires s : List ℕ) (level t at c : ℕ) {e : Expression} {n k : ℕ}
@@ -320,13 +327,13 @@ module _ {sheet memory words : List ℕ} {bits level asked at cell : ℕ}
         cells = omega (arith, ap (λ x. x .1) r);
       }) (ap (λ r. r .3 (typeOfByte asked) (bodyAt sheet at) []) r)
 
-  -- a wire or an input by its number, of the type asked
-  pub record Named (types : List ℕ) (e : Expression) : Type 0 where
+  -- a wire or an input by its number, of the type asked; `plain` gives the type from its type byte
+  pub record Named (plain : ℕ → ℕ) (types : List ℕ) (e : Expression) : Type 0 where
     pub leaf : Alone (at + 1 + bodyOf kind) cell e
     pub within : bodyAt sheet at < length types
-    pub typed : getD types (bodyAt sheet at) 0 ≡ asked
+    pub typed : plain (getD types (bodyAt sheet at) 0) ≡ asked
 
-  pub wire-view : kind ≡ 2 → Named (p .wires) (wire (bodyAt sheet at))
+  pub wire-view : kind ≡ 2 → Named plainByte (p .wires) (wire (bodyAt sheet at))
   unfolding meaningOf operandsOf
   wire-view is = record {
     leaf = alone (record { types = rw is; place = refl; cells = rw is (omega arith) }) (rw is);
@@ -334,13 +341,28 @@ module _ {sheet memory words : List ℕ} {bits level asked at cell : ℕ}
     typed = rw is (rw is at (opened .good .type));
   }
 
-  pub input-view : kind ≡ 3 → Named (p .inputs) (input (bodyAt sheet at))
+  pub input-view : kind ≡ 3 → Named (λ b. b) (p .inputs) (input (bodyAt sheet at))
   unfolding meaningOf operandsOf
   input-view is = record {
     leaf = alone (record { types = rw is; place = refl; cells = rw is (omega arith) }) (rw is);
     within = rw is (rw is at (opened .good .names));
     typed = rw is (rw is at (opened .good .type));
   }
+
+  -- the cell of a kept wire, by the wire's number
+  pub last-view : kind ≡ 18 → Named plainByte (p .wires) (last (bodyAt sheet at))
+  unfolding meaningOf operandsOf
+  last-view is = record {
+    leaf = alone (record { types = rw is; place = refl; cells = rw is (omega arith) }) (rw is);
+    within = rw is (rw is at (opened .good .names));
+    typed = rw is (rw is at (opened .good .type));
+  }
+
+  pub last-kept : kind ≡ 18 → isKept (getD (p .wires) (bodyAt sheet at) 0) ≡ true
+  last-kept is = rw is (not-false _ (rw is at (opened .good .asked-kept)))
+
+  pub last-of : kind ≡ 18 → Last sheet at
+  last-of is = record { whole = whole; kind = is; wire = omega (arith, last-view is .within, p .stands .wireLimit) }
 
   -- for the value of a constant, a wire or an input
   pub leaf-of : kind < 4 → Leaf sheet at
@@ -357,9 +379,9 @@ module _ {sheet memory words : List ℕ} {bits level asked at cell : ℕ}
     pub stands : CellStands memory cell form (cellAt (p .now .memory) cell)
     pub reads : readCell (typeOfByte asked) memory cell ≡ cellAt (p .now .memory) cell
 
-  pub own-cell : 15 ≤ kind → OwnCell
-  own-cell low =
-      let r = cell-row (typeOfByte asked) (bodyAt sheet at) kind low (opened .good .kind) in
+  pub own-cell : 15 ≤ kind → kind < 18 → OwnCell
+  own-cell low high =
+      let r = cell-row (typeOfByte asked) (bodyAt sheet at) kind low high in
       let stands = first-stands (rw (r .owns) at (opened .own)) in
       record { form = r .form; stands = stands; reads = rw (r .typed) at (stands .reads) }
 

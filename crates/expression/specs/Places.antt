@@ -6,16 +6,16 @@ use mathlib.Core.Bool.{Bool, true, false}
 use mathlib.Core.List.{List, [], _∷_}
 use lib.ListN.{length, getD, take, drop}
 use Rattle.wires.specs.Sets.{member}
-use Rattle.sheet.specs.Data.{ValueType, typeOfByte, datumOf}
+use Rattle.sheet.specs.Data.{ValueType, typeOfByte, isKept, wireType, datumOf}
 use Rattle.sheet.specs.Expressions.{Expression, CellForm, cellForms}
 use Rattle.sheet.specs.Readings.{got, readExpression}
 use Rattle.sheet.specs.Memory.{cellBytes, readCell, memoryBytes}
 use Rattle.sheet.specs.declared.Cell.{Cell}
 use Rattle.kernel.specs.Order.{valueAt}
-use Rattle.kernel.specs.Instant.{Environment, inputAt, cellAt, value, stored}
+use Rattle.kernel.specs.Instant.{Environment, inputAt, lastAt, cellAt, value, stored}
 use Rattle.kernel.specs.declared.Value.{Value}
 use Rattle.kernel.specs.declared.Value.the-variants.{Unknown, Known}
-use Rattle.leaves.specs.Words.{firstInput}
+use Rattle.leaves.specs.Words.{firstInput, firstLast}
 use Rattle.leaves.specs.declared.Valued.{Valued}
 
 -- the value of a wire, from whether it is in the set of known wires and its word
@@ -23,14 +23,16 @@ abbrev pub valueOfWord : Bool → ValueType → ℕ → Value
 valueOfWord false t word = Unknown
 valueOfWord true t word = Known (datumOf t word)
 
--- a set of known wires and the words stand for an environment's inputs and wires; types are type bytes
+-- a set of known wires and the words stand for an environment's inputs, wires and kept wires' cells; types are type bytes
 pub record Stands (inputs wires words : List ℕ) (bits : ℕ) (now : Environment) : Type 0 where
   pub inputLimit : length inputs ≤ 16
   pub onInputs : (i : ℕ) → i < length inputs
       → inputAt (now .inputs) i ≡ datumOf (typeOfByte (getD inputs i 0)) (getD words (firstInput + i) 0)
   pub wireLimit : length wires ≤ 64
   pub onWires : (w : ℕ) → w < length wires
-      → valueAt (now .wires) w ≡ valueOfWord (member bits w) (typeOfByte (getD wires w 0)) (getD words w 0)
+      → valueAt (now .wires) w ≡ valueOfWord (member bits w) (wireType (getD wires w 0)) (getD words w 0)
+  pub onLasts : (w : ℕ) → w < length wires → isKept (getD wires w 0) ≡ true
+      → lastAt (now .lasts) w ≡ datumOf (wireType (getD wires w 0)) (getD words (firstLast + w) 0)
 
 -- the bytes of cell k stand for a cell of the form
 pub record CellStands (memory : List ℕ) (k : ℕ) (form : CellForm) (c : Cell) : Type 0 where

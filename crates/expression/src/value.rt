@@ -1,10 +1,11 @@
 // The value of an expression over the sheet's bytes, a memory, the wires known so far and the words of wires and inputs. The memory
 // stands behind one more reference, so that a call hands on its address and copies no slice. An operand that is unknown ends it:
 // what it would hand back besides is not asked for.
-// Rests on `operations` for what a kind does with its operands, on `leaf` and `cells` of `leaves`, on `sheet` for the table of kinds,
+// Rests on `operations` for what a kind does with its operands, on `leaf`, `lasts` and `cells` of `leaves`, on `sheet` for the table of kinds,
 // and on `sheet_walk` for the walk past an operand.
 use leaves::Valued;
 use leaves::cells;
+use leaves::lasts;
 use leaves::leaf;
 use sheet::kinds;
 use sheet::memory;
@@ -22,7 +23,7 @@ pub fn value_expression(
     sheet: &[u8],
     memory: &&[u8],
     known: Wires,
-    words: &[u32; 80],
+    words: &[u32; 144],
     level: usize,
     at: usize,
     cell: usize,
@@ -54,7 +55,7 @@ fn value_operation(
     sheet: &[u8],
     memory: &&[u8],
     known: Wires,
-    words: &[u32; 80],
+    words: &[u32; 144],
     level: usize,
     at: usize,
     cell: usize,
@@ -102,7 +103,7 @@ fn value_conditional(
     sheet: &[u8],
     memory: &&[u8],
     known: Wires,
-    words: &[u32; 80],
+    words: &[u32; 144],
     level: usize,
     at: usize,
     cell: usize,
@@ -155,7 +156,7 @@ fn value_present(
     sheet: &[u8],
     memory: &&[u8],
     known: Wires,
-    words: &[u32; 80],
+    words: &[u32; 144],
     level: usize,
     at: usize,
     cell: usize,
@@ -211,7 +212,7 @@ fn value_reset(
     sheet: &[u8],
     memory: &&[u8],
     known: Wires,
-    words: &[u32; 80],
+    words: &[u32; 144],
     level: usize,
     at: usize,
     cell: usize,
@@ -245,7 +246,7 @@ fn value_pre(
     sheet: &[u8],
     memory: &&[u8],
     known: Wires,
-    words: &[u32; 80],
+    words: &[u32; 144],
     level: usize,
     at: usize,
     cell: usize,
@@ -267,21 +268,25 @@ fn value_pre(
     }
 }
 
-// The value of an fby, kind 17: its cell's where it sees it started, and else its left operand's.
-fn value_fby(
+// The value that a cell holds: by kind 18 that of the kept wire which it names; by an fby, kind 17, its own where it sees it started, and
+// else its left operand's. The two are one function, since one more step in `value_by_kind` would keep the fby from being folded into it.
+fn value_held(
     sheet: &[u8],
     memory: &&[u8],
     known: Wires,
-    words: &[u32; 80],
+    words: &[u32; 144],
     level: usize,
     at: usize,
     cell: usize,
     fresh: bool,
 ) -> Valued
     requires { ⌜ Placed (now sheet) (now (now memory)) (now words) (known .bits) level at cell ⌝ }
-    requires { ⌜ getD (now sheet) at 0 ≡ 17 ⌝ }
+    requires { ⌜ 17 ≤ getD (now sheet) at 0 ⌝ }
     ensures { λ r. ⌜ YieldsAt (now (sheet .entry)) (now (now (memory .entry))) (now (words .entry)) (known .bits) level at cell fresh r ⌝ }
 {
+    if sheet[at] == kinds::LAST {
+        return lasts::value_last(sheet, words, at, cell);
+    }
     let below = level - 1;
     let first = at + 1;
     let inner = cell + 1;
@@ -313,7 +318,7 @@ fn value_by_kind(
     sheet: &[u8],
     memory: &&[u8],
     known: Wires,
-    words: &[u32; 80],
+    words: &[u32; 144],
     level: usize,
     at: usize,
     cell: usize,
@@ -329,6 +334,6 @@ fn value_by_kind(
         13 => value_present(sheet, memory, known, words, level, at, cell, fresh),
         14 => value_reset(sheet, memory, known, words, level, at, cell, fresh),
         15 | 16 => value_pre(sheet, memory, known, words, level, at, cell, fresh),
-        _ => value_fby(sheet, memory, known, words, level, at, cell, fresh),
+        _ => value_held(sheet, memory, known, words, level, at, cell, fresh),
     }
 }

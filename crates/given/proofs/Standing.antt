@@ -30,7 +30,7 @@ use Rattle.kernel.specs.Instant.{inputAt, cellAt}
 use Rattle.kernel.specs.Calls.{Given, givenOf}
 use Rattle.sheet.specs.Laws.Lists.{both}
 use Rattle.kernel.specs.Laws.Given.{given-by}
-use Rattle.leaves.specs.Words.{inputWords, InputsPut}
+use Rattle.leaves.specs.Words.{fixedWords, InputsPut}
 use Rattle.expression.specs.Places.{CellsStand, none, more}
 
 abbrev pub Bytes : List ℕ → Type 0
@@ -169,19 +169,19 @@ input-view types row e =
 
 -- an input's word is its entry
 entry-word : (input words : List ℕ) → InputsPut input words → (i : ℕ) → 4 * i + 4 ≤ length input
-    → getD (inputWords words) i 0 ≡ entryAt input i
+    → getD (fixedWords words) i 0 ≡ entryAt input i
 unfolding InputsPut
 entry-word input words put i l = rw getD-drop (put i l)
 
 -- so an input's datum is what its word stands for
 pub input-words : (inputs input words : List ℕ) {ds : List Datum} → inputsOf (map typeOfByte inputs) input ≡ result ds
     → InputsPut input words → (i : ℕ) → i < length inputs
-    → inputAt ds i ≡ datumOf (typeOfByte (getD inputs i 0)) (getD (inputWords words) i 0)
+    → inputAt ds i ≡ datumOf (typeOfByte (getD inputs i 0)) (getD (fixedWords words) i 0)
 input-words inputs input words e put i l =
     let (sized, row) = input-view (map typeOfByte inputs) input e in
     let counted : length input ≡ 4 * length inputs = sized ∙ ap (λ (k : ℕ). 4 * k) (length-map inputs typeOfByte) in
     let here : 0 + i ≡ i = omega arith in
-    let word : getD (inputWords words) i 0 ≡ entryAt input (0 + i) =
+    let word : getD (fixedWords words) i 0 ≡ entryAt input (0 + i) =
     entry-word input words put i (omega (arith, counted)) ∙ ap (entryAt input) (sym here) in
     ap (λ (x : List Datum). inputAt x i) row ∙ row-at input inputs 0 i l
     ∙ ap (datumOf (typeOfByte (getD inputs i 0))) (sym word)

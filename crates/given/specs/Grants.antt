@@ -1,4 +1,5 @@
--- What the checks 1 to 16 of an instant's buffers grant it: the parts of the sheet, the map and the inputs' words, by which it runs.
+-- What the checks 1 to 16 of an instant's buffers grant it: the parts of the sheet, the map and the words that no round changes, by which
+-- it runs.
 use Prim.Native.Nat.{ℕ, _+_, _-_, _*_, _≤_}
 use mathlib.Core.Path.{_≡_}
 use mathlib.Core.List.{List}
@@ -7,7 +8,7 @@ use Rattle.sheet.specs.Outcomes.{Outcome, refusal, result}
 use Rattle.sheet_expressions.specs.Map.{EachHoldsJust}
 use Rattle.kernel.specs.Instants.{wireCount, readsAt}
 use Rattle.kernel.specs.Calls.{Given, givenOf}
-use Rattle.leaves.specs.Words.{inputWords}
+use Rattle.leaves.specs.Words.{wordCount, fixedWords}
 use Rattle.rounds.specs.Running.{Running, RunningReads}
 use Rattle.rounds.specs.Outputs.{Below}
 use Rattle.given.specs.declared.Given.{Given as Answer}
@@ -32,20 +33,20 @@ LiesIn s from to = (from ≤ to) × (to ≤ length s)
 
 -- buffers that passed run, by the types of the wires, `types`, and the outputs are wires, which the bytes `outputs` name
 pub record Granted (s memory input output places firsts reads words types outputs : List ℕ) : Type 0 where
-  pub running : Running s memory (inputWords words) types places firsts
+  pub running : Running s memory (fixedWords words) types places firsts
   pub reading : EachHoldsJust reads (length types) (readsAt (running .given .sheet .expressions))
   pub passes : givenOf s memory input output ≡ result (running .given)
   pub wired : wireCount (running .given .sheet) ≡ length types
   pub named : running .given .sheet .outputs ≡ outputs
   pub below : Below (length types) outputs
   pub row : length output ≡ 4 * length outputs
-  pub room : length words ≡ 80
+  pub room : length words ≡ wordCount
   pub setRoom : 64 ≤ length reads
 
 -- what runs, with its reads
 abbrev pub grantedReads : {s memory input output places firsts reads words types outputs : List ℕ}
     → Granted s memory input output places firsts reads words types outputs
-    → RunningReads s memory (inputWords words) types places firsts reads
+    → RunningReads s memory (fixedWords words) types places firsts reads
 grantedReads g = record { running = g .running; reading = g .reading }
 
 -- the types of the wires and the outputs stand in the sheet between these places, and by them an instant is granted

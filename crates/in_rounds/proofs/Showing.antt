@@ -15,7 +15,7 @@ use Rattle.kernel.specs.Instants.{wireCount}
 use Rattle.kernel.specs.Calls.{givenOf, placeOfLoop, inRounds, roundsCall}
 use Rattle.kernel.specs.Laws.Demands.{givesOf, SomeUnknown, full-or-unknown, givenFinished, givenRounds, demand2}
 use Rattle.kernel.specs.declared.Value.{Value}
-use Rattle.leaves.specs.Words.{inputWords}
+use Rattle.leaves.specs.Words.{fixedWords}
 use Rattle.rounds.specs.Running.{Holds, RunningUnder}
 use Rattle.rounds.specs.Outputs.{wordsOf}
 use Rattle.rounds.proofs.Rounding.{held-known, known-held}
@@ -52,18 +52,18 @@ module _ {s memory input output places firsts reads start outputs : List ℕ} (f
   abbrev Under : List ℕ → Type 0
   Under row = RunningUnder s memory row (part s from to) places firsts bits words
 
-  pub loop-asked : Under (inputWords words)
-  loop-asked = subst Under (sym (h .inputs)) (under-finished g h)
+  pub loop-asked : Under (fixedWords words)
+  loop-asked = subst Under (sym (h .fixed)) (under-finished g h)
 
   pub unknown-shown : (tally (member bits) 64 ≡ length (part s from to) → ⊥) → {place : ℕ}
-      → ((u : Under (inputWords words)) → place ≡ placeOfLoop (u .running .given) (u .values))
+      → ((u : Under (fixedWords words)) → place ≡ placeOfLoop (u .running .given) (u .values))
       → Prepares (roundsCall s memory input output) s memory places firsts words (Refused StaysUnknown place) output
   unfolding roundsCall
   unknown-shown differ {place} answers = go (full-or-unknown n (givenFinished (given g)))
     where
       named : place ≡ placeOfLoop (given g) (givenFinished (given g))
       named =
-          subst (λ (row : List ℕ). (u : Under row) → place ≡ placeOfLoop (u .running .given) (u .values)) (h .inputs) answers
+          subst (λ (row : List ℕ). (u : Under row) → place ≡ placeOfLoop (u .running .given) (u .values)) (h .fixed) answers
           (under-finished g h)
 
       n : ℕ

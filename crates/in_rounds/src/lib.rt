@@ -9,6 +9,7 @@ ghost use mathlib.Core.Path.{_≡_};
 ghost use Prim.Native.Nat.{_≤_};
 ghost use lib.ListN.{length};
 ghost use Rattle.kernel.specs.Calls.{roundsCall, Shows, Leaves, packedRounds, Packable};
+ghost use Rattle.leaves.specs.Words.{wordCount};
 ghost use Rattle.in_rounds.specs.Showing.{Prepares};
 
 // What an instant in rounds comes to before anything is stored: a refusal, or the rounds, and where the types of the wires stand.
@@ -31,7 +32,7 @@ pub fn instant(sheet: &[u8], memory: &mut [u8], input: &[u8], output: &mut [u8])
 {
     let mut places = [0u16; 64];
     let mut firsts = [0u8; 64];
-    let mut words = [0u32; 80];
+    let mut words = [0u32; 144];
     match show(
         sheet,
         memory,
@@ -67,7 +68,7 @@ pub fn preview(sheet: &[u8], memory: &[u8], input: &[u8], output: &mut [u8]) -> 
 {
     let mut places = [0u16; 64];
     let mut firsts = [0u8; 64];
-    let mut words = [0u32; 80];
+    let mut words = [0u32; 144];
     match show(
         sheet,
         memory,
@@ -95,9 +96,9 @@ fn show(
     output: &mut [u8],
     places: &mut [u16; 64],
     firsts: &mut [u8; 64],
-    words: &mut [u32; 80],
+    words: &mut [u32; 144],
 ) -> Shown
-    requires { ⌜ (64 ≤ length (now places)) × (64 ≤ length (now firsts)) × (length (now words) ≡ 80) ⌝ }
+    requires { ⌜ (64 ≤ length (now places)) × (64 ≤ length (now firsts)) × (length (now words) ≡ wordCount) ⌝ }
     ensures { λ r. ⌜ Prepares (roundsCall (now (sheet .entry)) (now (memory .entry)) (now (input .entry)) (now (output .entry)))
         (now (sheet .entry)) (now (memory .entry)) (now (places .exit)) (now (firsts .exit)) (now (words .exit)) r (now (output .exit)) ⌝ }
 {

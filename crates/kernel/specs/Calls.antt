@@ -14,8 +14,7 @@ use Rattle.sheet.specs.declared.Cell.{Cell}
 use Rattle.sheet.specs.declared.Refusal.the-variants.{OutputLength, StaysUnknown}
 use Rattle.kernel.specs.Values.{isUnknown}
 use Rattle.kernel.specs.Order.{valueAt}
-use Rattle.kernel.specs.Instant.{under}
-use Rattle.kernel.specs.Instants.{wireCount, rounds, finished, nextMemory, outputRow}
+use Rattle.kernel.specs.Instants.{wireCount, under, rounds, finished, nextMemory, outputRow}
 use Rattle.kernel.specs.Waits.{lowestWaiting}
 use Rattle.kernel.specs.Schedules.{scheduleOf, pass}
 use Rattle.kernel.specs.declared.Value.{Value}
@@ -45,7 +44,7 @@ anyUnknown n wires = ltb (lowest (λ w. isUnknown (valueAt wires w)) n) n
 
 -- the place of 20: the lowest wire that waits for itself, directly or through others (document 02, K5)
 unfoldable pub placeOfLoop : Given → List Value → ℕ
-placeOfLoop given wires = lowestWaiting (under (given .inputs) (given .memory) wires) (given .sheet .expressions)
+placeOfLoop given wires = lowestWaiting (under (given .sheet) (given .inputs) (given .memory) wires) (given .sheet .expressions)
 
 -- what an accepted instant gives: the rounds, of which a schedule makes none, and what it writes
 pub record Accepted : Type 0 where

@@ -10,9 +10,11 @@ use lib.ListN.{length, replicate}
 use Rattle.sheet.specs.Examples.{quarterBytes}
 use Rattle.sheet.specs.Outcomes.{Outcome, refusal, result}
 use Rattle.sheet.specs.Sheets.{Sheet, checkOf, sheetOf}
-use Rattle.sheet.specs.Memory.{startCall, packedStarted}
+use Rattle.sheet.specs.Memory.{memoryBytes, startCall, packedStarted}
 use Rattle.sheet.specs.Rows.{rowBytes}
-use Rattle.sheet.specs.declared.Datum.the-variants.{Number}
+use Rattle.sheet.specs.declared.Datum.the-variants.{Boolean, Number}
+use Rattle.sheet.specs.declared.Cell.{Cell}
+use Rattle.sheet.specs.declared.Cell.the-variants.{NotStarted, Started}
 use Rattle.sheet.specs.declared.Checked.{Checked}
 use Rattle.sheet.specs.declared.Checked.the-variants.{Refused, Passed}
 use Rattle.kernel.specs.Depths.{greatestDepth}
@@ -128,6 +130,14 @@ unscheduled sheet steps = record { sheet = sheet; steps = steps; lists = []; dep
 abbrev pair : (inputTypes : List ℕ) → (secondType : ℕ) → (first second : List ℕ) → List ℕ
 pair inputTypes secondType first second =
     length inputTypes ∷ (inputTypes ++ (2 ∷ 1 ∷ secondType ∷ 1 ∷ 0 ∷ (first ++ second)))
+
+-- two wires, neither of which reads a wire within the instant
+abbrev independent : List ℕ → List Step → Case
+independent sheet steps = record { sheet = sheet; steps = steps; lists = along (0 ∷ 1 ∷ []) 0 ∷ along (1 ∷ 0 ∷ []) 0 ∷ []; depth = 1 }
+
+-- one wire, a number that is kept
+abbrev keptNumber : (inputTypes expression : List ℕ) → List ℕ
+keptNumber inputTypes expression = length inputTypes ∷ (inputTypes ++ (1 ∷ 3 ∷ 1 ∷ 0 ∷ expression))
 
 -- refused 20 at the place, without inputs
 abbrev loops : ℕ → List Step
@@ -277,4 +287,60 @@ table =
       lists = along (2 ∷ 1 ∷ 0 ∷ []) 0 ∷ [];
       depth = 3;
     }
+    -- K7: a tamper flag, kept through a firing reset that clears the count beside it; kind 18 stands under the reset
+    ∷ independent
+    (2 ∷ 0 ∷ 0 ∷ 2 ∷ 2 ∷ 1 ∷ 2 ∷ 0 ∷ 1
+    ∷ 14 ∷ 3 ∷ 1 ∷ 7 ∷ 18 ∷ 0 ∷ 3 ∷ 0
+    ∷ 14 ∷ 3 ∷ 1 ∷ 8 ∷ 16 ∷ 0 ∷ 0 ∷ 0 ∷ 0 ∷ 2 ∷ 1 ∷ one-number)
+    (on (0 ∷ 0 ∷ []) (0 ∷ 1 ∷ []) ∷ on (1 ∷ 0 ∷ []) (1 ∷ 2 ∷ []) ∷ on (0 ∷ 1 ∷ []) (1 ∷ 1 ∷ []) ∷ on (0 ∷ 0 ∷ []) (1 ∷ 2 ∷ []) ∷ [])
+    -- K7: a kept number, which an earlier wire gives one instant late; it reads no wire within the instant
+    ∷ independent (0 ∷ 2 ∷ 1 ∷ 3 ∷ 2 ∷ 0 ∷ 1 ∷ 18 ∷ 1 ∷ 8 ∷ 18 ∷ 1 ∷ one-number)
+    (on [] (0 ∷ 1 ∷ []) ∷ on [] (1 ∷ 2 ∷ []) ∷ on [] (2 ∷ 3 ∷ []) ∷ [])
+    -- K7: kind 18 under a pre, which stores what the kept cell held before the instant
+    ∷ independent (0 ∷ 2 ∷ 1 ∷ 3 ∷ 2 ∷ 0 ∷ 1 ∷ 16 ∷ 7 ∷ 0 ∷ 0 ∷ 0 ∷ 18 ∷ 1 ∷ 8 ∷ 18 ∷ 1 ∷ one-number)
+    (on [] (7 ∷ 1 ∷ []) ∷ on [] (0 ∷ 2 ∷ []) ∷ on [] (1 ∷ 3 ∷ []) ∷ [])
+    -- K7: kind 18 in an arm that is not always chosen; the wire's value is stored whichever is
+    ∷ alone (keptNumber (0 ∷ []) (13 ∷ 3 ∷ 0 ∷ 8 ∷ 18 ∷ 0 ∷ (one-number ++ (1 ∷ 5 ∷ 0 ∷ 0 ∷ 0 ∷ []))))
+    (on (1 ∷ []) (1 ∷ []) ∷ on (0 ∷ []) (5 ∷ []) ∷ on (1 ∷ []) (6 ∷ []) ∷ on (1 ∷ []) (7 ∷ []) ∷ [])
+    -- K7: kind 18 under a reset, which fires and changes nothing
+    ∷ alone (keptNumber (0 ∷ []) (14 ∷ 3 ∷ 0 ∷ 8 ∷ 18 ∷ 0 ∷ one-number))
+    (on (0 ∷ []) (1 ∷ []) ∷ on (1 ∷ []) (2 ∷ []) ∷ on (1 ∷ []) (3 ∷ []) ∷ [])
+    -- K7 and K5: kind 18 waits for nothing, though the wire that it names waits for itself
+    ∷ unscheduled (pair [] 3 (18 ∷ 1 ∷ []) (2 ∷ 1 ∷ [])) (loops 1)
+    ∷ []
+
+-- K7: the cells that the instants with these input rows leave, from the start on.
+pub record Left : Type 0 where
+  pub sheet : List ℕ
+  pub rows : List (List ℤ)
+  pub cells : List Cell
+
+unfoldable pub memoryAfter : (s memory : List ℕ) → List (List ℤ) → List ℕ
+memoryAfter s memory [] = memory
+memoryAfter s memory (zs ∷ rows) = memoryAfter s (roundsCall s memory (row zs) (rubbish (outputBytes (checkOf s))) .memory) rows
+
+unfoldable pub leaves : Left → Bool
+leaves l =
+    let started = startCall (l .sheet) (rubbish (memorySize (checkOf (l .sheet)))) in
+    sameBytes (memoryAfter (l .sheet) (started .memory) (l .rows)) (memoryBytes (l .cells))
+
+-- a kept Boolean, wire 1, whose cell lies between those of wire 0 and wire 2, and before that of its own pre
+abbrev between : List (List ℤ) → List Cell → Left
+between rows cells = record {
+  sheet = 1 ∷ 0 ∷ 3 ∷ 1 ∷ 2 ∷ 1 ∷ 1 ∷ 2
+      ∷ 16 ∷ 9 ∷ 0 ∷ 0 ∷ 0 ∷ 1 ∷ 1 ∷ 0 ∷ 0 ∷ 0
+      ∷ 15 ∷ 1 ∷ 3 ∷ 0
+      ∷ 17 ∷ 2 ∷ 0 ∷ 1 ∷ 4 ∷ 0 ∷ 0 ∷ 0 ∷ [];
+  rows = rows;
+  cells = cells;
+}
+
+unfoldable pub cellTable : List Left
+cellTable =
+    between []
+    (Started (Number (pos 9)) ∷ Started (Boolean false) ∷ Started (Boolean true) ∷ NotStarted ∷ [])
+    ∷ between (naturals (0 ∷ []) ∷ [])
+    (Started (Number (pos 1)) ∷ Started (Boolean true) ∷ Started (Boolean false) ∷ Started (Number (pos 4)) ∷ [])
+    ∷ between (naturals (0 ∷ []) ∷ naturals (1 ∷ []) ∷ [])
+    (Started (Number (pos 1)) ∷ Started (Boolean false) ∷ Started (Boolean true) ∷ Started (Number (pos 4)) ∷ [])
     ∷ []

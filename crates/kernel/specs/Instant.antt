@@ -4,7 +4,7 @@ use Prim.Native.Nat.{ℕ, suc, _+_}
 use mathlib.Core.Bool.{Bool, true, false, _||_, Bool·beq, cond}
 use mathlib.Core.List.{List, [], _∷_, _++_}
 use lib.ListN.{take, drop, getD}
-use Rattle.sheet.specs.Expressions.{Expression, constant, wire, input, unary, binary, choose, reset, pre, fby}
+use Rattle.sheet.specs.Expressions.{Expression, constant, wire, input, last, unary, binary, choose, reset, pre, fby, kept}
 use Rattle.sheet.specs.Expressions.{Choice, conditional, present, cellForms, cellCount}
 use Rattle.sheet.specs.Memory.{startMemory}
 use Rattle.sheet.specs.declared.Datum.{Datum}
@@ -19,6 +19,10 @@ use Rattle.kernel.specs.declared.Value.the-variants.{Known}
 
 abbrev pub inputAt : List Datum → ℕ → Datum
 inputAt inputs i = getD inputs i (Boolean false)
+
+-- what the cell of a kept wire holds, by the wire's number
+abbrev pub lastAt : List Datum → ℕ → Datum
+lastAt lasts w = getD lasts w (Boolean false)
 
 abbrev pub cellAt : List Cell → ℕ → Cell
 cellAt memory k = getD memory k NotStarted
@@ -43,20 +47,20 @@ abbrev pub runs : Choice → Bool → Bool → Bool
 runs conditional t arm = true
 runs present t arm = Bool·beq t arm
 
--- what an expression is worked out under
+-- What an expression is worked out under. Kind 18 names a wire, whose cell may belong to a wire that comes later: `lasts` has what the
+-- kept wires' cells hold, a datum for each wire.
 pub record Environment : Type 0 where
   pub inputs : List Datum
+  pub lasts : List Datum
   pub memory : List Cell
   pub wires : List Value
-
-abbrev pub under : List Datum → List Cell → List Value → Environment
-under inputs memory wires = record { inputs = inputs; memory = memory; wires = wires }
 
 module _ (now : Environment) where
   unfoldable pub value : Bool → Expression → ℕ → Value
   value fresh (constant d) k = Known d
   value fresh (wire w) k = valueAt (now .wires) w
   value fresh (input i) k = Known (inputAt (now .inputs) i)
+  value fresh (last w) k = Known (lastAt (now .lasts) w)
   value fresh (unary o a) k = whenKnown (value fresh a k) (λ x. Known (applyUnary o x))
   value fresh (binary o a b) k =
       whenKnown (value fresh a k) (λ x. whenKnown (value fresh b (k + cellCount a)) (λ y. Known (applyBinary o x y)))
@@ -66,16 +70,18 @@ module _ (now : Environment) where
   value fresh (reset c a) k = whenKnown (value fresh c k) (λ t. value (truth t || fresh) a (k + cellCount c))
   value fresh (pre d a) k = Known (heldOr d (cond fresh (Started d) (cellAt (now .memory) k)))
   value fresh (fby t a b) k = knownOr (value fresh a (suc k)) (cond fresh NotStarted (cellAt (now .memory) k))
+  value fresh (kept t a) k = value fresh a (suc k)
 
   -- the cells of an expression that does not advance: as they were, or the starting ones where fresh
-  unfoldable pub kept : Bool → Expression → ℕ → List Cell
-  kept fresh e k = cond fresh (startMemory (cellForms e)) (take (cellCount e) (drop k (now .memory)))
+  unfoldable pub resting : Bool → Expression → ℕ → List Cell
+  resting fresh e k = cond fresh (startMemory (cellForms e)) (take (cellCount e) (drop k (now .memory)))
 
   -- to advance is to store one's cells
   unfoldable pub stored : Bool → Expression → ℕ → List Cell
   stored fresh (constant d) k = []
   stored fresh (wire w) k = []
   stored fresh (input i) k = []
+  stored fresh (last w) k = []
   stored fresh (unary o a) k = stored fresh a k
   stored fresh (binary o a b) k = stored fresh a k ++ stored fresh b (k + cellCount a)
   stored fresh (choose o c a b) k =
@@ -83,10 +89,11 @@ module _ (now : Environment) where
       let first = k + cellCount c in
       let second = k + cellCount c + cellCount a in
       stored fresh c k
-      ++ (cond (runs o t true) (stored fresh a first) (kept fresh a first)
-      ++ cond (runs o t false) (stored fresh b second) (kept fresh b second))
+      ++ (cond (runs o t true) (stored fresh a first) (resting fresh a first)
+      ++ cond (runs o t false) (stored fresh b second) (resting fresh b second))
   stored fresh (reset c a) k = stored fresh c k ++ stored (isTrue (value fresh c k) || fresh) a (k + cellCount c)
   stored fresh (pre d a) k = Started (datumIn (value fresh a (suc k))) ∷ stored fresh a (suc k)
   stored fresh (fby t a b) k =
       Started (datumIn (value fresh b (suc k + cellCount a)))
       ∷ (stored fresh a (suc k) ++ stored fresh b (suc k + cellCount a))
+  stored fresh (kept t a) k = Started (datumIn (value fresh a (suc k))) ∷ stored fresh a (suc k)

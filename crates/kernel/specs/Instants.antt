@@ -1,16 +1,17 @@
 -- One instant of a sheet: the round, the rounds and the finished values, the outputs and the next memory.
 use Prim.Native.Nat.{ℕ, zero, suc, _+_}
-use mathlib.Core.Bool.{false}
+use mathlib.Core.Bool.{false, cond}
 use mathlib.Core.List.{List, [], _∷_, _++_, map}
 use lib.ListN.{length}
-use Rattle.sheet.specs.Expressions.{Expression, cellCount}
+use Rattle.sheet.specs.Data.{ValueType, datumOf}
+use Rattle.sheet.specs.Expressions.{Expression, isKeptWire, cellCount}
 use Rattle.sheet.specs.Sheets.{Sheet}
 use Rattle.sheet.specs.declared.Datum.{Datum}
 use Rattle.sheet.specs.declared.Cell.{Cell}
 use Rattle.kernel.specs.Values.{datumIn}
 use Rattle.kernel.specs.Order.{valueAt}
 use Rattle.sheet.specs.Reads.{wiresRead}
-use Rattle.kernel.specs.Instant.{Environment, under, value, stored}
+use Rattle.kernel.specs.Instant.{Environment, cellAt, heldOr, value, stored}
 use Rattle.kernel.specs.Systems as System
 use Rattle.kernel.specs.declared.Value.{Value}
 use Rattle.kernel.specs.declared.Value.the-variants.{Unknown}
@@ -39,10 +40,27 @@ module _ (now : Environment) where
   storedCells [] k = []
   storedCells (e ∷ es) k = stored now false e k ++ storedCells es (k + cellCount e)
 
+-- what the first cell of a kept wire holds; of any other wire, which kind 18 never names, false or 0
+abbrev pub lastIn : ValueType → Expression → Cell → Datum
+lastIn t e cell = cond (isKeptWire e) (heldOr (datumOf t 0) cell) (datumOf t 0)
+
+-- of each of the wires with these types and expressions, whose cells stand from number k on
+unfoldable pub lastsFrom : List Cell → List ValueType → List Expression → ℕ → List Datum
+lastsFrom memory [] es k = []
+lastsFrom memory (t ∷ ts) [] k = []
+lastsFrom memory (t ∷ ts) (e ∷ es) k = lastIn t e (cellAt memory k) ∷ lastsFrom memory ts es (k + cellCount e)
+
+abbrev pub lastsOf : Sheet → List Cell → List Datum
+lastsOf sheet memory = lastsFrom memory (sheet .wireTypes) (sheet .expressions) 0
+
 module _ (sheet : Sheet) (inputs : List Datum) (memory : List Cell) where
+  -- what the expressions of a sheet are worked out under
+  abbrev pub under : List Value → Environment
+  under wires = record { inputs = inputs; lasts = lastsOf sheet memory; memory = memory; wires = wires }
+
   -- all expressions worked out from the values before
   unfoldable pub round : List Value → List Value
-  round wires = values (under inputs memory wires) (sheet .expressions) 0
+  round wires = values (under wires) (sheet .expressions) 0
 
   unfoldable pub rounds : ℕ
   rounds = System.rounds (wireCount sheet) round
@@ -52,7 +70,7 @@ module _ (sheet : Sheet) (inputs : List Datum) (memory : List Cell) where
 
   -- all stored values are taken under the finished wire values and the old memory
   unfoldable pub nextMemory : List Value → List Cell
-  nextMemory wires = storedCells (under inputs memory wires) (sheet .expressions) 0
+  nextMemory wires = storedCells (under wires) (sheet .expressions) 0
 
 unfoldable pub outputRow : Sheet → List Value → List Datum
 outputRow sheet wires = map (λ w. datumIn (valueAt wires w)) (sheet .outputs)

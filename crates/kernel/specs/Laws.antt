@@ -20,9 +20,12 @@ pub mod Demands
 pub mod Previews
 pub mod Typing
 pub mod Storing
+pub mod Lasts
+pub mod Kept
 pub mod Memory
 pub mod Refusals
 pub mod Answers
 pub mod Depths
 pub mod Sums
+pub mod KeptCells
 pub mod Cases

@@ -12,8 +12,7 @@ use Rattle.sheet.specs.declared.Cell.{Cell}
 use Rattle.sheet.specs.declared.Refusal.the-variants.{ScheduleLength, ScheduleEntry, ScheduleOrder}
 use Rattle.kernel.specs.Order.{allUnknown}
 use Rattle.sheet.specs.Lists.{among, allAmong, Every}
-use Rattle.kernel.specs.Instant.{under}
-use Rattle.kernel.specs.Instants.{wireCount, readsAt, valueOfWire}
+use Rattle.kernel.specs.Instants.{wireCount, readsAt, valueOfWire, under}
 use Rattle.kernel.specs.declared.Value.{Value}
 
 module _ (list : List ℕ) where
@@ -54,7 +53,7 @@ module _ (sheet : Sheet) (inputs : List Datum) (memory : List Cell) where
   -- at each position the wire gets what its expression yields under the values so far
   unfoldable pub passFrom : List Value → List ℕ → List Value
   passFrom wires [] = wires
-  passFrom wires (w ∷ ws) = passFrom (set wires w (valueOfWire (under inputs memory wires) (sheet .expressions) 0 w)) ws
+  passFrom wires (w ∷ ws) = passFrom (set wires w (valueOfWire (under sheet inputs memory wires) (sheet .expressions) 0 w)) ws
 
   -- all wires begin unknown
   unfoldable pub pass : List ℕ → List Value

@@ -5,7 +5,7 @@ use mathlib.Core.Bool.{Bool, true, false, _||_, _&&_, cond}
 use mathlib.Core.List.{List, [], _∷_, _++_}
 use lib.ListN.{length}
 use Rattle.sheet.specs.Lists.{among}
-use Rattle.sheet.specs.Expressions.{Expression, constant, wire, input, unary, binary, choose, reset, pre, fby}
+use Rattle.sheet.specs.Expressions.{Expression, constant, wire, input, last, unary, binary, choose, reset, pre, fby, kept}
 use Rattle.sheet.specs.Expressions.{Choice, conditional, present, cellCount}
 use Rattle.sheet.specs.Sheets.{expressionAt, cellsBefore}
 use Rattle.sheet.specs.declared.Datum.{Datum}
@@ -39,6 +39,7 @@ module _ (now : Environment) where
   wiresAwaited fresh (constant d) k = []
   wiresAwaited fresh (wire w) k = w ∷ []
   wiresAwaited fresh (input i) k = []
+  wiresAwaited fresh (last w) k = []
   wiresAwaited fresh (unary o a) k = wiresAwaited fresh a k
   wiresAwaited fresh (binary o a b) k = wiresAwaited fresh a k ++ wiresAwaited fresh b (k + cellCount a)
   wiresAwaited fresh (choose o c a b) k =
@@ -48,6 +49,7 @@ module _ (now : Environment) where
       wiresAwaited fresh c k ++ onceKnown (value now fresh c k) (λ t. wiresAwaited (truth t || fresh) a (k + cellCount c))
   wiresAwaited fresh (pre d a) k = []
   wiresAwaited fresh (fby t a b) k = leftAwaited (wiresAwaited fresh a (suc k)) (cond fresh NotStarted (cellAt (now .memory) k))
+  wiresAwaited fresh (kept t a) k = wiresAwaited fresh a (suc k)
 
 -- The expressions of an instant in wire order; `now` has the finished values of the wires.
 module _ (now : Environment) (es : List Expression) where

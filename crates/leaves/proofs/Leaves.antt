@@ -1,18 +1,18 @@
 -- What the bytes of a leaf show: its body, by the table of kinds, and the word that it stands for.
 use Prim.Native.Nat.{ℕ, _+_, _≤_, _<_}
-use mathlib.Core.Path.{_≡_, refl, sym, ap, _∙_}
+use mathlib.Core.Path.{_≡_, refl, sym}
 use mathlib.Core.Bool.{Bool, true, false}
 use mathlib.Core.List.{List}
 use native.Mathlib.Omega.{arith}
 use lib.Dec.{eqb}
 use lib.ListN.{length, getD}
-use borrow.Author.Tests.{eq-eqb, ne-eqb, eqb-true}
+use borrow.Author.Tests.{ne-eqb, eqb-true}
 use Rattle.numbers.specs.Words.{wordAt}
 use Rattle.sheet.specs.Kinds.{bodyOf}
 use Rattle.sheet.specs.Readings.{bodyAt}
 use Rattle.sheet.specs.Laws.Readings.{kinds-between, _▸_, end}
-use Rattle.leaves.specs.Words.{firstInput}
-use Rattle.leaves.specs.Leaves.{Leaf, knownBy, leafWord}
+use Rattle.leaves.specs.Words.{firstInput, firstLast}
+use Rattle.leaves.specs.Leaves.{Leaf, Last, knownBy, leafWord, lastWord}
 
 -- the body of a leaf: one byte, but of a number's constant four
 abbrev LeafBody : ℕ → Type 0
@@ -70,3 +70,14 @@ module _ {s : List ℕ} {at : ℕ} (l : Leaf s at) where
       by : (b : Bool) → eqb kind 2 ≡ b → knownBy bits kind (getD s (at + 1) 0) ≡ knownBy bits kind (bodyAt s at)
       by false e = rw e
       by true e = let is : kind ≡ 2 = eqb-true kind 2 e in rw is
+
+-- the same of kind 18, whose body is one byte
+module _ {s : List ℕ} {at : ℕ} (l : Last s at) where
+  pub last-bytes : at + 2 ≤ length s
+  last-bytes = let ends : at + 1 + 1 ≤ length s = rw (l .kind) at (l .whole .ends) in omega arith
+
+  pub last-byte : getD s (at + 1) 0 < 64
+  last-byte = rw (l .kind) at (l .wire)
+
+  pub word-of-last : (words : List ℕ) → getD words (firstLast + getD s (at + 1) 0) 0 ≡ lastWord s words at
+  word-of-last words = rw (l .kind)

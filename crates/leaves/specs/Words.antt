@@ -1,10 +1,11 @@
--- The words of an instant's inputs, which stand behind those of its wires, and what a place sees of its cell.
-use Prim.Native.Nat.{ℕ, _+_, _*_, _≤_}
+-- The words of an instant's inputs and of its kept wires' cells, which stand behind those of its wires, and what a place sees of its cell.
+use Prim.Native.Nat.{ℕ, _+_, _-_, _*_, _≤_, _<_}
 use mathlib.Core.Path.{_≡_}
-use mathlib.Core.Bool.{Bool, false, not, cond}
+use mathlib.Core.Bool.{Bool, true, false, not, cond}
 use mathlib.Core.List.{List}
 use lib.Dec.{eqb}
 use lib.ListN.{length, getD, drop}
+use Rattle.sheet.specs.Data.{isKept}
 use Rattle.sheet.specs.Readings.{bodyAt}
 use Rattle.sheet.specs.Memory.{markAt, cellWordAt}
 use Rattle.sheet.specs.Rows.{entryAt}
@@ -13,12 +14,35 @@ use Rattle.sheet.specs.Rows.{entryAt}
 abbrev pub firstInput : ℕ
 firstInput = 64
 
-abbrev pub inputWords : List ℕ → List ℕ
-inputWords words = drop firstInput words
+-- and from here on, by the numbers of the wires, those that the cells of kept wires hold
+abbrev pub firstLast : ℕ
+firstLast = 80
+
+abbrev pub wordCount : ℕ
+wordCount = 144
+
+-- the words behind those of the wires, which no round changes
+abbrev pub fixedWords : List ℕ → List ℕ
+fixedWords words = drop firstInput words
 
 -- each entry of an input row is among them
 unfoldable pub InputsPut : (input words : List ℕ) → Type 0
 InputsPut input words = (i : ℕ) → 4 * i + 4 ≤ length input → getD words (firstInput + i) 0 ≡ entryAt input i
+
+-- the wires with these type bytes and first cells; a kept wire's own cell is the one before
+module _ (types firsts memory : List ℕ) where
+  -- the cell of each kept wire is one of the memory
+  pub record KeptCell (w : ℕ) : Type 0 where
+    pub some : 1 ≤ getD firsts w 0
+    pub fits : 5 * getD firsts w 0 ≤ length memory
+
+  unfoldable pub KeptCells : Type 0
+  KeptCells = (w : ℕ) → w < length types → isKept (getD types w 0) ≡ true → KeptCell w
+
+  -- and its word is among those of the instant
+  unfoldable pub LastsPut : (words : List ℕ) → Type 0
+  LastsPut words = (w : ℕ) → w < length types → isKept (getD types w 0) ≡ true
+      → getD words (firstLast + w) 0 ≡ cellWordAt memory (getD firsts w 0 - 1)
 
 -- the place sees its cell as started: the cell is so, and the place is not fresh
 abbrev pub isSeen : Bool → List ℕ → ℕ → Bool

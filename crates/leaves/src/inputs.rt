@@ -3,12 +3,12 @@ use crate::leaf;
 ghost use mathlib.Core.Path.{_≡_};
 ghost use Prim.Native.Nat.{_≤_};
 ghost use lib.ListN.{length};
-ghost use Rattle.leaves.specs.Words.{InputsPut};
+ghost use Rattle.leaves.specs.Words.{wordCount, InputsPut};
 
 // Puts the entries of an input row; what the words of the wires become is free, as none is known yet.
-pub fn put_inputs(input: &[u8], words: &mut [u32; 80])
-    requires { ⌜ (length (now input) ≤ 64) × (length (now words) ≡ 80) ⌝ }
-    ensures { λ _. ⌜ InputsPut (now (input .entry)) (now (words .exit)) × (length (now (words .exit)) ≡ 80) ⌝ }
+pub fn put_inputs(input: &[u8], words: &mut [u32; 144])
+    requires { ⌜ (length (now input) ≤ 64) × (length (now words) ≡ wordCount) ⌝ }
+    ensures { λ _. ⌜ InputsPut (now (input .entry)) (now (words .exit)) × (length (now (words .exit)) ≡ wordCount) ⌝ }
 {
     let count = input.len() / 4;
     let mut i = 0;

@@ -22,7 +22,7 @@ fn is_known(known: Wires, kind: u8, named: u8) -> bool
 }
 
 // The word that stands for the value: the constant, or the word of the wire or the input that is named.
-pub fn word_of(sheet: &[u8], words: &[u32; 80], at: usize) -> u32
+pub fn word_of(sheet: &[u8], words: &[u32; 144], at: usize) -> u32
     requires { ⌜ Leaf (now sheet) at ⌝ }
     ensures { λ r. ⌜ r ≡ leafWord (now (sheet .entry)) (now (words .entry)) at ⌝ }
 {
@@ -49,7 +49,7 @@ pub fn body(kind: u8) -> usize
 }
 
 // The value; it has no cells.
-pub fn value_leaf(sheet: &[u8], known: Wires, words: &[u32; 80], at: usize, cell: usize) -> Valued
+pub fn value_leaf(sheet: &[u8], known: Wires, words: &[u32; 144], at: usize, cell: usize) -> Valued
     requires { ⌜ Leaf (now sheet) at ⌝ }
     ensures { λ r. ⌜ r ≡ leafValued (now (sheet .entry)) (now (words .entry)) (known .bits) at cell ⌝ }
 {

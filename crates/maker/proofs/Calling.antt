@@ -4,7 +4,7 @@ use mathlib.Core.Path.{_≡_, refl, sym, ap, _∙_}
 use mathlib.Core.List.{List}
 use native.Mathlib.Omega.{arith}
 use lib.ListN.{length, length-map}
-use Rattle.sheet.specs.Data.{typeOfByte}
+use Rattle.sheet.specs.Data.{wireType}
 use Rattle.sheet.specs.Outcomes.{refusal, result}
 use Rattle.sheet.specs.Sheets.{Sheet, before, sheetOf, checkOf}
 use Rattle.sheet.specs.Typing.{WellTyped}
@@ -13,7 +13,7 @@ use Rattle.sheet.specs.Laws.Headers.{SheetRead}
 use Rattle.sheet.specs.Laws.Typing.{passed-check}
 use Rattle.sheet.specs.declared.Refusal.{Refusal}
 use Rattle.sheet.specs.declared.Checked.the-variants.{Passed}
-use Rattle.sheet_expressions.specs.Map.{HoldsJust, Mapped, wiresOf, EachHoldsJust}
+use Rattle.sheet_expressions.specs.Map.{Mapped, wiresOf, EachHoldsJust}
 use Rattle.kernel.specs.Instants.{wireCount, readsAt}
 use Rattle.kernel.specs.Laws.Reads.{reads-of-tree}
 use Rattle.maker.specs.Reaching.{readsOf}
@@ -39,7 +39,7 @@ passes s {rows = rows} i w o k e map =
     let v = p .view in
     let counted : wireCount (p .sheet) ≡ w = sym (passed .same-length) ∙ p .wires-are in
     let sized : length (before s (v .wiresEnd) (v .wireCount)) ≡ w =
-    sym (ap (λ x. length (x .wireTypes)) (v .is) ∙ length-map (before s (v .wiresEnd) (v .wireCount)) typeOfByte) ∙ p .wires-are in
+    sym (ap (λ x. length (x .wireTypes)) (v .is) ∙ length-map (before s (v .wiresEnd) (v .wireCount)) wireType) ∙ p .wires-are in
     record {
       sheet = p .sheet;
       outcome = p .outcome;

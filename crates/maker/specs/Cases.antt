@@ -48,6 +48,8 @@ table =
     ∷ finds (three (17 ∷ (five ++ (2 ∷ 0 ∷ (five ++ five))))) (0 ∷ 1 ∷ 2 ∷ []) 1
     -- the deepest wire is not the last placed: wire 1 is wire 0, and nothing reads wire 2
     ∷ finds (three (five ++ (2 ∷ 0 ∷ five))) (0 ∷ 1 ∷ 2 ∷ []) 2
+    -- K7: kind 18 is no read: wire 0 is what wire 1 was, which is kept and is wire 0
+    ∷ finds (0 ∷ 2 ∷ 1 ∷ 3 ∷ 1 ∷ 0 ∷ 18 ∷ 1 ∷ 2 ∷ 0 ∷ []) (0 ∷ 1 ∷ []) 2
     -- wire 0 is wire 1, wire 1 is wire 1: the place is the wire that reaches itself, not the one that waits for it
     ∷ refuses (three (2 ∷ 1 ∷ 2 ∷ 1 ∷ five)) 3 21 1
     -- a loop of wires 1 and 2, which wire 0 does not reach

@@ -1,2 +1,3 @@
 -- How the storing of a memory goes on.
 pub mod Storing
+pub mod Keeping

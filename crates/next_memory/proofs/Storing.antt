@@ -1,5 +1,5 @@
 -- How the storing of a memory goes on: the wires below w have stored their cells, and the cells of those that are left still stand.
-use Prim.Native.Nat.{ℕ, zero, suc, _+_, _*_, _≤_, _<_, zero-le}
+use Prim.Native.Nat.{ℕ, zero, suc, _+_, _-_, _*_, _≤_, _<_, zero-le}
 use mathlib.Core.Path.{_≡_, refl, sym, ap, _∙_}
 use mathlib.Core.Bool.{false}
 use mathlib.Core.List.{List, [], _∷_, _++_}
@@ -8,9 +8,11 @@ use native.Mathlib.Omega.{arith}
 use lib.ListN.{length, getD, take, drop, length-append}
 use lib.Seq.{sets, length-sets, drop-cons, drop-length, take-suc}
 use Rattle.sheet.specs.Expressions.{Expression, constant, cellForms, cellCount}
-use Rattle.sheet.specs.Sheets.{formsOf, expressionAt, cellsBefore}
+use Rattle.sheet.specs.Data.{plainByte, isKept}
+use Rattle.sheet.specs.Sheets.{formsOf, expressionAt, cellsBefore, ownCells}
 use Rattle.sheet.specs.Memory.{memoryBytes}
 use Rattle.sheet.specs.Laws.Readings.{forms-length, expression-extent}
+use Rattle.sheet.specs.Laws.Wires.{tree-count}
 use Rattle.sheet.specs.Laws.Memory.{pairwise-length, memory-length}
 use Rattle.sheet.specs.declared.Cell.{Cell}
 use Rattle.sheet.specs.declared.Datum.the-variants.{Boolean}
@@ -19,14 +21,14 @@ use Rattle.sheet_expressions.proofs.Drawing.{forms-snoc}
 use Rattle.kernel.specs.Values.{IsKnown}
 use Rattle.kernel.specs.Order.{valueAt}
 use Rattle.kernel.specs.Systems.{Full}
-use Rattle.kernel.specs.Instant.{Environment, under, stored}
-use Rattle.kernel.specs.Instants.{storedCells, nextMemory}
-use Rattle.storing.specs.declared.advance.Advanced.{Advanced}
+use Rattle.kernel.specs.Instant.{Environment, stored}
+use Rattle.kernel.specs.Instants.{storedCells, under, nextMemory}
+use Rattle.kernel.specs.Laws.Kept.{tree-stored}
 use Rattle.expression.specs.Places.{CellsStand}
 use Rattle.expression.proofs.Views.{cells-split}
-use Rattle.rounds.proofs.Wires.{wires-counted, running-stands}
+use Rattle.rounds.proofs.Wires.{wires-counted, cells-within, running-stands}
 use Rattle.rounds.proofs.Rounding.{known-held}
-use Rattle.storing.specs.Advances.{Ready, Advances}
+use Rattle.next_memory.specs.Wires.{ReadyWire, wireBytes}
 use Rattle.storing.proofs.Standing.{cells-past, memory-append, stored-length}
 use Rattle.rounds.specs.Settled.{Settled, storedOf}
 
@@ -63,7 +65,7 @@ module _ {s start types places firsts words : List ℕ} (f : Settled s start typ
     trees = f .under .running .given .sheet .expressions
 
     abbrev environment : Environment
-    environment = under (f .under .running .given .inputs) (f .under .running .given .memory) (f .under .values)
+    environment = under (f .under .running .given .sheet) (f .under .running .given .inputs) (f .under .running .given .memory) (f .under .values)
 
     -- the number of the first cell of wire w
     abbrev first : ℕ → ℕ
@@ -115,31 +117,36 @@ module _ {s start types places firsts words : List ℕ} (f : Settled s start typ
           within = first-within trees (suc w);
         }
 
-    -- the expression of wire w can advance
+    -- wire w can store its cells
     pub ready : {w at cell : ℕ} {memory : List ℕ} → Stored w memory → w < length types → at ≡ getD places w 0 → cell ≡ getD firsts w 0
-        → Ready s memory words 16 (getD types w 0) at cell
+        → ReadyWire s memory words (getD types w 0) at cell
     ready {w} h l p q =
         let t = turn h l in
+        let byte = getD types w 0 in
         let here = f .under .running .starts w l in
         let number = q ∙ here .first in
-        let extent = expression-extent (f .under .running .inputs) types s 16 (getD types w 0) (getD places w 0) (getD firsts w 0) (here .reads) in
-        let count : here .count ≡ first (suc w) = omega (arith, extent .counted, here .first, t .counted) in
+        let extent = expression-extent (f .under .running .inputs) types s 16 (plainByte byte) (getD places w 0) (getD firsts w 0) (here .reads) in
+        let size = ap cellCount (here .whole) ∙ tree-count byte (here .tree) in
+        let count : here .count ≡ first (suc w) = omega (arith, extent .counted, here .first, t .counted, size) in
         record {
-          bits = f .bits;
-          full = λ x m. known-held (full-at f x m) (f .under .holds .each x m);
-          place = record {
-            inputs = f .under .running .inputs;
-            wires = types;
-            now = environment;
-            tree = expressionAt trees w;
-            next = here .next;
-            count = here .count;
-            reads = rw (p, q) (here .reads);
-            stands = running-stands (f .under .running) (f .under .holds) (f .under .typed);
-            cells = rw number (t .cells);
+          expression = record {
+            bits = f .bits;
+            full = λ x m. known-held (full-at f x m) (f .under .holds .each x m);
+            place = record {
+              inputs = f .under .running .inputs;
+              wires = types;
+              now = environment;
+              tree = here .tree;
+              next = here .next;
+              count = here .count;
+              reads = rw (p, q) (here .reads);
+              stands = running-stands (f .under .running) (f .under .holds) (f .under .typed);
+              cells = rw number (cells-within byte (here .tree) (rw (here .whole) at (t .cells)));
+            };
+            within = omega (arith, t .within, owned .0, count);
+            room = omega (arith, t .within, owned .1, h .room, count);
           };
-          within = omega (arith, t .within, owned .0, count);
-          room = omega (arith, t .within, owned .1, h .room, count);
+          own = λ k. let one : ownCells byte ≡ 1 = rw k in omega (arith, number, one);
         }
 
     -- the cells of wire w are stored, whoever did it
@@ -165,24 +172,31 @@ module _ {s start types places firsts words : List ℕ} (f : Settled s start typ
         }
 
     pub one-stored : {w at cell : ℕ} {memory after : List ℕ} (h : Stored w memory) (l : w < length types) (p : at ≡ getD places w 0)
-        (q : cell ≡ getD firsts w 0) (v : Advanced) → Advances (ready h l p q) false v after → Stored (w + 1) after
+        (q : cell ≡ getD firsts w 0) → after ≡ sets memory (5 * (cell - ownCells (getD types w 0))) (wireBytes (ready h l p q))
+        → Stored (w + 1) after
     unfolding ready
-    one-stored {w} {at} {cell} h l p q v a =
-        let number : cell ≡ first w = q ∙ f .under .running .starts w l .first in
-        further h l (rw number at (a .holds))
+    one-stored {w} {at} {cell} {memory} h l p q holds =
+        let byte = getD types w 0 in
+        let here = f .under .running .starts w l in
+        let number : cell ≡ first w + ownCells byte = q ∙ here .first in
+        let own : cell - ownCells byte ≡ first w = omega arith in
+        let cells = ap (λ e. stored environment false e (first w)) (here .whole) ∙ tree-stored environment false byte (here .tree) (first w) in
+        further h l (holds ∙ rw (own, number, cells))
 
     -- a wire without cells stores nothing
-    pub none-stored : {w : ℕ} {memory : List ℕ} → Stored w memory → (w + 1 < length types) × (getD firsts w 0 ≡ getD firsts (w + 1) 0)
-        → Stored (w + 1) memory
+    pub none-stored : {w : ℕ} {memory : List ℕ} → Stored w memory
+        → (isKept (getD types w 0) ≡ false) × (w + 1 < length types) × (getD firsts w 0 ≡ getD firsts (w + 1) 0) → Stored (w + 1) memory
     unfolding memoryBytes
-    none-stored {w} {memory} h (l, same) =
+    none-stored {w} {memory} h (plain, l, same) =
         let inside : w < length types = omega arith in
         let t = turn h inside in
-        let next : getD firsts (suc w) 0 ≡ first (suc w) = rw add-one at (f .under .running .starts (w + 1) l .first) in
+        let none : ownCells (getD types w 0) ≡ 0 = rw plain in
+        let next : getD firsts (suc w) 0 ≡ first (suc w) + ownCells (getD types (suc w) 0) =
+        rw add-one at (f .under .running .starts (w + 1) l .first) in
         let alike : getD firsts w 0 ≡ getD firsts (suc w) 0 = rw add-one at same in
         let cells = stored environment false (expressionAt trees w) (first w) in
         let size = stored-length environment false (expressionAt trees w) (first w) (omega (arith, t .within, t .counted, owned .0)) in
-        let nothing : cells ≡ [] = no-cells cells (omega (arith, size, t .counted, f .under .running .starts w inside .first)) in
+        let nothing : cells ≡ [] = no-cells cells (omega (arith, size, t .counted, none, next, f .under .running .starts w inside .first)) in
         further h inside (rw nothing)
 
     pub all-stored : {w : ℕ} {memory : List ℕ} → Stored w memory → w ≡ length types → memory ≡ storedOf f

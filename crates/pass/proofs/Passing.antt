@@ -11,11 +11,11 @@ use lib.ListN.{length, getD, getElem?, drop, set, length-set, length-replicate}
 use lib.Seq.{drop-cons, drop-length, getD-set-same, getD-set-other}
 use Rattle.wires.specs.Laws.{at-or-else}
 use Rattle.wires.specs.Sets.{member}
-use Rattle.sheet.specs.Data.{ValueType}
+use Rattle.sheet.specs.Data.{ValueType, plainByte}
 use Rattle.kernel.specs.Values.{Fits, unknown-fits}
 use Rattle.kernel.specs.Order.{valueAt, allUnknown}
-use Rattle.kernel.specs.Instant.{Environment, under}
-use Rattle.kernel.specs.Instants.{wireCount, valueOfWire}
+use Rattle.kernel.specs.Instant.{Environment}
+use Rattle.kernel.specs.Instants.{wireCount, valueOfWire, under}
 use Rattle.kernel.specs.Schedules.{passFrom, pass}
 use Rattle.kernel.specs.Laws.Order.{unknown-at}
 use Rattle.kernel.specs.Laws.Instants.{round-at}
@@ -23,19 +23,19 @@ use Rattle.kernel.specs.Laws.Typing.{OnWires, fits-inherited}
 use Rattle.kernel.specs.Laws.Memory.{round-typed}
 use Rattle.kernel.specs.declared.Value.{Value}
 use Rattle.kernel.specs.declared.Value.the-variants.{Unknown}
-use Rattle.leaves.specs.Words.{inputWords}
+use Rattle.leaves.specs.Words.{fixedWords}
 use Rattle.expression.specs.Places.{Placement, wholeValue}
 use Rattle.rounds.specs.Running.{Running, Held, unheld, Holds, Put}
 use Rattle.rounds.proofs.Wires.{wires-counted, wire-placed, wire-valued}
-use Rattle.rounds.proofs.Rounding.{put-length, put-inputs, put-other, put-held}
+use Rattle.rounds.proofs.Rounding.{put-length, put-fixed, put-other, put-held}
 use Rattle.pass.specs.Along.{Along, passedOf}
 
 module _ {s memory types places firsts list start : List ℕ} (a : Along s memory types places firsts list start) where
-  abbrev run : Running s memory (inputWords start) types places firsts
+  abbrev run : Running s memory (fixedWords start) types places firsts
   run = a .running
 
   abbrev environment : List Value → Environment
-  environment = under (run .given .inputs) (run .given .memory)
+  environment = under (run .given .sheet) (run .given .inputs) (run .given .memory)
 
   abbrev worthOf : List Value → ℕ → Value
   worthOf values = valueOfWire (environment values) (run .given .sheet .expressions) 0
@@ -43,7 +43,7 @@ module _ {s memory types places firsts list start : List ℕ} (a : Along s memor
   -- the values after the first p positions
   pub record Sofar (p bits : ℕ) (words : List ℕ) : Type 0 where
     pub values : List Value
-    pub holds : Holds (length types) (inputWords start) bits words values
+    pub holds : Holds (length types) (fixedWords start) bits words values
     pub typed : OnWires Fits (run .given .sheet .wireTypes) values
     pub ahead : (q : ℕ) → p ≤ q → q < length list → member bits (getD list q 0) ≡ false
     pub rest : passFrom (run .given .sheet) (run .given .inputs) (run .given .memory) values (drop p list) ≡ passedOf a
@@ -55,7 +55,7 @@ module _ {s memory types places firsts list start : List ℕ} (a : Along s memor
       record {
         values = allUnknown n;
         holds = record {
-          inputs = refl;
+          fixed = refl;
           size = length-replicate n Unknown ∙ wires-counted run;
           room = a .room;
           each = λ w l. rw (none w, unknown-at n w) unheld;
@@ -69,7 +69,7 @@ module _ {s memory types places firsts list start : List ℕ} (a : Along s memor
   -- where the expression of the wire at position p stands
   abbrev pub placed : {p bits at cell : ℕ} {words : List ℕ} → Sofar p bits words → p < length list
       → at ≡ getD places (getD list p 0) 0 → cell ≡ getD firsts (getD list p 0) 0
-      → Placement s memory words bits 16 (getD types (getD list p 0) 0) at cell
+      → Placement s memory words bits 16 (plainByte (getD types (getD list p 0) 0)) at cell
   placed {p} h l = wire-placed run (h .holds) (h .typed) (getD list p 0) (a .wires p l)
 
   -- a wire's value has its type
@@ -98,7 +98,7 @@ module _ {s memory types places firsts list start : List ℕ} (a : Along s memor
       record {
         values = set values w (worthOf values w);
         holds = record {
-          inputs = put-inputs was (omega (arith, inside, run .few)) ∙ h .holds .inputs;
+          fixed = put-fixed was (omega (arith, inside, run .few)) ∙ h .holds .fixed;
           size = simp length-set (h .holds .size);
           room = omega (arith, h .holds .room, put-length was);
           each = λ x m.
@@ -117,6 +117,6 @@ module _ {s memory types places firsts list start : List ℕ} (a : Along s memor
       }
 
   pub passed : {p bits : ℕ} {words : List ℕ} → Sofar p bits words → p ≡ length list
-      → Holds (length types) (inputWords start) bits words (passedOf a)
+      → Holds (length types) (fixedWords start) bits words (passedOf a)
   unfolding passFrom
   passed h e = let done : h .values ≡ passedOf a = rw (e, drop-length) at (h .rest) in rw done at (h .holds)

@@ -5,12 +5,12 @@ use mathlib.Core.List.{List}
 use lib.ListN.{length, getD}
 use Rattle.kernel.specs.Schedules.{pass}
 use Rattle.kernel.specs.declared.Value.{Value}
-use Rattle.leaves.specs.Words.{inputWords}
+use Rattle.leaves.specs.Words.{fixedWords}
 use Rattle.rounds.specs.Running.{Running}
 
 -- what runs, and a list that names wires, none of them twice
 pub record Along (s memory types places firsts list words : List ℕ) : Type 0 where
-  pub running : Running s memory (inputWords words) types places firsts
+  pub running : Running s memory (fixedWords words) types places firsts
   pub wires : (p : ℕ) → p < length list → getD list p 0 < length types
   pub once : (p q : ℕ) → p < q → q < length list → getD list p 0 ≡ getD list q 0 → ⊥
   pub room : length types ≤ length words

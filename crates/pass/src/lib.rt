@@ -3,7 +3,7 @@
 use sheet_expressions::map;
 use wires::Wires;
 ghost use lib.ListN.{length};
-ghost use Rattle.leaves.specs.Words.{inputWords};
+ghost use Rattle.leaves.specs.Words.{fixedWords};
 ghost use Rattle.rounds.specs.Running.{Holds};
 ghost use Rattle.pass.specs.Along.{Along, passedOf};
 
@@ -15,12 +15,12 @@ pub fn pass(
     places: &[u16; 64],
     firsts: &[u8; 64],
     list: &[u8],
-    words: &mut [u32; 80],
+    words: &mut [u32; 144],
 ) -> Wires
     requires { ⌜ Along (now sheet) (now memory) (now types) (now places) (now firsts) (now list) (now words) ⌝ }
     ensures { λ r. ⌜ ((a : Along (now (sheet .entry)) (now (memory .entry)) (now (types .entry))
         (now (places .entry)) (now (firsts .entry)) (now (list .entry)) (now (words .entry)))
-        → Holds (length (now (types .entry))) (inputWords (now (words .entry))) (r .bits) (now (words .exit)) (passedOf a)) ⌝ }
+        → Holds (length (now (types .entry))) (fixedWords (now (words .entry))) (r .bits) (now (words .exit)) (passedOf a)) ⌝ }
 {
     let mut known = Wires::none();
     let mut p = 0;

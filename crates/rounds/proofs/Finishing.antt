@@ -28,7 +28,7 @@ use Rattle.kernel.specs.Laws.Instants.{round-monotone}
 use Rattle.kernel.specs.Laws.Memory.{after-typed}
 use Rattle.kernel.specs.declared.Value.{Value}
 use Rattle.kernel.specs.declared.Value.the-variants.{Unknown}
-use Rattle.leaves.specs.Words.{inputWords}
+use Rattle.leaves.specs.Words.{fixedWords}
 use Rattle.rounds.specs.Running.{Held, unheld, held, Holds, Running, RunningReads, roundOf, Before}
 use Rattle.rounds.specs.Due.{DueIn, every-due}
 use Rattle.rounds.proofs.Wires.{wires-counted}
@@ -75,15 +75,15 @@ module _ {s memory row types places firsts reads : List ℕ} (run : RunningReads
     pub whichDue : DueIn (length types) bits due (after (suc k))
 
   -- before the first round every wire is due
-  pub unrounded : {bits due : ℕ} {words : List ℕ} → inputWords words ≡ row → length types ≤ length words
+  pub unrounded : {bits due : ℕ} {words : List ℕ} → fixedWords words ≡ row → length types ≤ length words
       → ((w : ℕ) → member bits w ≡ false)
       → ((w : ℕ) → member due w ≡ ltb w (length types)) → Rounded 0 bits due words
   unfolding System.after
-  unrounded {due = due} inputs room none all =
+  unrounded {due = due} fixed room none all =
       let n = wireCount (r .given .sheet) in
       record {
         holds = record {
-          inputs = inputs;
+          fixed = fixed;
           size = length-replicate n Unknown ∙ wires-counted r;
           room = room;
           each = λ w l. rw (none w, unknown-at n w) unheld;
@@ -109,9 +109,9 @@ module _ {s memory row types places firsts reads : List ℕ} (run : RunningReads
 
   -- by the inputs' words as they stand there
   pub before-here : {k bits due : ℕ} {words : List ℕ} → Rounded k bits due words
-      → Before s memory (inputWords words) types places firsts bits due words
+      → Before s memory (fixedWords words) types places firsts bits due words
   before-here {bits = bits} {due} {words} h =
-      subst (λ (x : List ℕ). Before s memory x types places firsts bits due words) (sym (h .holds .inputs)) (before h)
+      subst (λ (x : List ℕ). Before s memory x types places firsts bits due words) (sym (h .holds .fixed)) (before h)
 
   -- what a round makes of the values before it, and of the inputs' words
   abbrev pub Made : (row : List ℕ) (bits due : ℕ) (words : List ℕ) (grown : ℕ) (new : List ℕ) → Type 0
@@ -120,10 +120,10 @@ module _ {s memory row types places firsts reads : List ℕ} (run : RunningReads
 
   -- One round more.
   module _ {k bits due grown : ℕ} {words new : List ℕ} (h : Rounded k bits due words)
-      (made : Made (inputWords words) bits due words grown new) where
+      (made : Made (fixedWords words) bits due words grown new) where
     here : Holds (length types) row grown new (System.roundOver (roundOf r) (after k))
     unfolding before
-    here = subst (λ (x : List ℕ). Made x bits due words grown new) (h .holds .inputs) made (before h)
+    here = subst (λ (x : List ℕ). Made x bits due words grown new) (h .holds .fixed) made (before h)
 
     -- as the values grow, it is the round of the definition
     next : Holds (length types) row grown new (after (suc k))

@@ -11,6 +11,7 @@ use lib.Seq.{getD-set-same, getD-set-other, drop-set-lt}
 use borrow.Author.Tests.{eq-eqb, ltb-true, ltb-false, not-true}
 use Rattle.wires.specs.Sets.{member}
 use Rattle.wires.specs.Laws.{at-or-else, added-other, taken-other, left-other}
+use Rattle.sheet.specs.Data.{plainByte}
 use Rattle.sheet.specs.Laws.Lists.{never, both}
 use Rattle.kernel.specs.Values.{IsKnown, known}
 use Rattle.kernel.specs.Order.{valueAt}
@@ -19,7 +20,7 @@ use Rattle.kernel.specs.Laws.Keeping.{over-length, over-known, over-unknown}
 use Rattle.kernel.specs.Laws.Instants.{round-at}
 use Rattle.kernel.specs.declared.Value.{Value}
 use Rattle.kernel.specs.declared.Value.the-variants.{Unknown}
-use Rattle.leaves.specs.Words.{inputWords}
+use Rattle.leaves.specs.Words.{fixedWords}
 use Rattle.expression.specs.Places.{Placement, wholeValue}
 use Rattle.rounds.specs.Running.{Held, unheld, held, Holds, roundOf, Before, Put, left, put}
 use Rattle.rounds.proofs.Wires.{wire-placed, wire-valued}
@@ -61,9 +62,9 @@ module _ {w bits after : ℕ} {words new : List ℕ} where
   put-length (left m e) = ap length e
   put-length (put m e) = ap length e ∙ simp length-set
 
-  pub put-inputs : {v : Value} → Put w bits words v after new → w < 64 → inputWords new ≡ inputWords words
-  put-inputs (left m e) l = ap inputWords e
-  put-inputs (put m e) l = ap inputWords e ∙ drop-set-lt 64 words w _ l
+  pub put-fixed : {v : Value} → Put w bits words v after new → w < 64 → fixedWords new ≡ fixedWords words
+  put-fixed (left m e) l = ap fixedWords e
+  put-fixed (put m e) l = ap fixedWords e ∙ drop-set-lt 64 words w _ l
 
   pub put-other : {v : Value} → Put w bits words v after new → (x : ℕ) → x ≢ w
       → (member after x ≡ member bits x) × (getD new x 0 ≡ getD words x 0)
@@ -111,7 +112,7 @@ module _ {s memory row types places firsts start : List ℕ} {bits due : ℕ}
 
   -- where the expression of wire w stands
   abbrev pub placed : {w left grown at cell : ℕ} {words : List ℕ} → Midway left grown words → w < length types → at ≡ getD places w 0
-      → cell ≡ getD firsts w 0 → Placement s memory words bits 16 (getD types w 0) at cell
+      → cell ≡ getD firsts w 0 → Placement s memory words bits 16 (plainByte (getD types w 0)) at cell
   placed {w} m l = wire-placed (b .under .running) (m .holds) (b .under .typed) w l
 
   -- wire w, which is left, gets its new value
@@ -137,7 +138,7 @@ module _ {s memory row types places firsts start : List ℕ} {bits due : ℕ}
         let still : Held (member bits w) (getD new w 0) (valueAt (b .under .values) w) = rw (m .ahead w next .1, was-unknown) unheld in
         record {
           holds = record {
-            inputs = put-inputs p (omega (arith, b .under .running .few)) ∙ h .inputs;
+            fixed = put-fixed p (omega (arith, b .under .running .few)) ∙ h .fixed;
             size = h .size;
             room = omega (arith, h .room, put-length p);
             each = λ x k.
@@ -158,7 +159,7 @@ module _ {s memory row types places firsts start : List ℕ} {bits due : ℕ}
       → Holds (length types) row grown words rounded
   round-done m none =
       record {
-        inputs = m .holds .inputs;
+        fixed = m .holds .fixed;
         size = over-length (roundOf (b .under .running)) (b .under .values) ∙ b .under .holds .size;
         room = m .holds .room;
         each = λ x k. m .done x k (none x);

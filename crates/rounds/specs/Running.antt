@@ -1,45 +1,47 @@
 -- What an instant runs on once 1 to 16 are passed, and how a set of known wires and their words hold the values of wires.
-use Prim.Native.Nat.{ℕ, _*_, _≤_, _<_}
+use Prim.Native.Nat.{ℕ, _+_, _*_, _≤_, _<_}
 use mathlib.Core.Path.{_≡_}
 use mathlib.Core.Bool.{Bool, true, false, _||_}
 use mathlib.Core.List.{List, map}
 use lib.Dec.{eqb}
 use lib.ListN.{length, getD, set}
 use Rattle.wires.specs.Sets.{member}
-use Rattle.sheet.specs.Data.{typeOfByte, datumOf, wordOf}
-use Rattle.sheet.specs.Readings.{got, readEach, readExpression}
-use Rattle.sheet.specs.Sheets.{sheetForms}
+use Rattle.sheet.specs.Data.{typeOfByte, isKept, wireType, datumOf, wordOf}
+use Rattle.sheet.specs.Readings.{got}
+use Rattle.sheet.specs.Sheets.{sheetForms, readWires}
 use Rattle.sheet.specs.Typing.{WellTyped, ValidInputs, ValidMemory}
 use Rattle.sheet.specs.declared.Datum.{Datum}
 use Rattle.sheet_expressions.specs.Map.{StartsAt, EachHoldsJust, runOf}
 use Rattle.kernel.specs.Values.{Fits}
 use Rattle.kernel.specs.Order.{valueAt}
-use Rattle.kernel.specs.Instant.{inputAt}
-use Rattle.kernel.specs.Instants.{readsAt, round}
+use Rattle.kernel.specs.Instant.{inputAt, lastAt}
+use Rattle.kernel.specs.Instants.{readsAt, lastsOf, round}
 use Rattle.kernel.specs.Calls.{Given}
 use Rattle.kernel.specs.Laws.Typing.{OnWires}
 use Rattle.kernel.specs.declared.Value.{Value}
 use Rattle.kernel.specs.declared.Value.the-variants.{Unknown, Known}
-use Rattle.leaves.specs.Words.{inputWords}
+use Rattle.leaves.specs.Words.{fixedWords}
 use Rattle.expression.specs.Places.{CellsStand}
 use Rattle.rounds.specs.Due.{DueIn}
 
--- the bytes that passed the checks, with what they say: `row` are the inputs' words, `types` the wires' type bytes, and the map says where
--- each wire's expression starts and which cell is its first
+-- the bytes that passed the checks, with what they say: `row` are the words of the inputs and, behind room for 16, of the kept wires' cells,
+-- `types` the wires' type bytes, and the map says where each wire's expression starts and which cell is its first
 pub record Running (s memory row types places firsts : List ℕ) : Type 0 where
   pub given : Given
   pub inputs : List ℕ
   pub first : ℕ
   pub next : ℕ
   pub count : ℕ
-  pub run : readEach (readExpression inputs types s 16) types first 0 ≡ got (given .sheet .expressions) next count
+  pub run : readWires inputs types s first ≡ got (given .sheet .expressions) next count
   pub starts : (w : ℕ) → w < length types
       → StartsAt (runOf inputs types s first (given .sheet .expressions) next count run) w (getD places w 0) (getD firsts w 0)
   pub inputTypes : given .sheet .inputTypes ≡ map typeOfByte inputs
-  pub wireTypes : given .sheet .wireTypes ≡ map typeOfByte types
+  pub wireTypes : given .sheet .wireTypes ≡ map wireType types
   pub few : length types ≤ 64
   pub inputLimit : length inputs ≤ 16
   pub onInputs : (i : ℕ) → i < length inputs → inputAt (given .inputs) i ≡ datumOf (typeOfByte (getD inputs i 0)) (getD row i 0)
+  pub onLasts : (w : ℕ) → w < length types → isKept (getD types w 0) ≡ true
+      → lastAt (lastsOf (given .sheet) (given .memory)) w ≡ datumOf (wireType (getD types w 0)) (getD row (16 + w) 0)
   pub memorySize : length memory ≡ 5 * length (sheetForms (given .sheet))
   pub cells : CellsStand memory (given .memory) 0 (sheetForms (given .sheet))
   pub wellTyped : WellTyped (given .sheet)
@@ -56,9 +58,9 @@ pub data Held : Bool → ℕ → Value → Type 0 where
   unheld : {word : ℕ} → Held false word Unknown
   held : {word : ℕ} {d : Datum} → word ≡ wordOf d → Held true word (Known d)
 
--- the set and the words hold the values of n wires, and behind the wires' words stand those of the inputs
+-- the set and the words hold the values of n wires, and behind the wires' words stand those that no round changes
 pub record Holds (n : ℕ) (row : List ℕ) (bits : ℕ) (words : List ℕ) (values : List Value) : Type 0 where
-  pub inputs : inputWords words ≡ row
+  pub fixed : fixedWords words ≡ row
   pub size : length values ≡ n
   pub room : n ≤ length words
   pub each : (w : ℕ) → w < n → Held (member bits w) (getD words w 0) (valueAt values w)

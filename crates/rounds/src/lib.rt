@@ -10,7 +10,7 @@ ghost use Prim.Native.Nat.{_*_, _≤_, _<_};
 ghost use lib.ListN.{length};
 ghost use Rattle.kernel.specs.Systems.{roundOver};
 ghost use Rattle.kernel.specs.Instants.{rounds, finished};
-ghost use Rattle.leaves.specs.Words.{inputWords};
+ghost use Rattle.leaves.specs.Words.{fixedWords};
 ghost use Rattle.rounds.specs.Running.{RunningReads, Holds, roundOf, Before, Put};
 ghost use Rattle.rounds.specs.Outputs.{Below, wordsOf};
 
@@ -21,7 +21,7 @@ pub struct Finished {
 }
 
 // Puts the value of a wire: a known one into the set, and its word into the words.
-pub fn put_value(worth: Value, wire: usize, known: Wires, words: &mut [u32; 80]) -> Wires
+pub fn put_value(worth: Value, wire: usize, known: Wires, words: &mut [u32; 144]) -> Wires
     requires { ⌜ (wire < 64) × (wire < length (now words)) ⌝ }
     ensures { λ r. ⌜ Put wire (known .bits) (now (words .entry)) worth (r .bits) (now (words .exit)) ⌝ }
 {
@@ -45,13 +45,13 @@ fn round(
     firsts: &[u8; 64],
     before: Wires,
     due: Wires,
-    words: &mut [u32; 80],
+    words: &mut [u32; 144],
 ) -> Wires
-    requires { ⌜ Before (now sheet) (now memory) (inputWords (now words)) (now types) (now places) (now firsts)
+    requires { ⌜ Before (now sheet) (now memory) (fixedWords (now words)) (now types) (now places) (now firsts)
         (before .bits) (due .bits) (now words) ⌝ }
-    ensures { λ r. ⌜ ((b : Before (now (sheet .entry)) (now (memory .entry)) (inputWords (now (words .entry))) (now (types .entry))
+    ensures { λ r. ⌜ ((b : Before (now (sheet .entry)) (now (memory .entry)) (fixedWords (now (words .entry))) (now (types .entry))
         (now (places .entry)) (now (firsts .entry)) (before .bits) (due .bits) (now (words .entry)))
-        → Holds (length (now (types .entry))) (inputWords (now (words .entry))) (r .bits) (now (words .exit))
+        → Holds (length (now (types .entry))) (fixedWords (now (words .entry))) (r .bits) (now (words .exit))
         (roundOver (roundOf (b .under .running)) (b .under .values))) ⌝ }
 {
     let mut grown = before;
@@ -78,14 +78,14 @@ pub fn finish(
     places: &[u16; 64],
     firsts: &[u8; 64],
     reads: &[u64; 64],
-    words: &mut [u32; 80],
+    words: &mut [u32; 144],
 ) -> Finished
-    requires { ⌜ RunningReads (now sheet) (now memory) (inputWords (now words)) (now types) (now places) (now firsts) (now reads)
+    requires { ⌜ RunningReads (now sheet) (now memory) (fixedWords (now words)) (now types) (now places) (now firsts) (now reads)
         × (length (now types) ≤ length (now words)) ⌝ }
-    ensures { λ r. ⌜ ((run : RunningReads (now (sheet .entry)) (now (memory .entry)) (inputWords (now (words .entry))) (now (types .entry))
+    ensures { λ r. ⌜ ((run : RunningReads (now (sheet .entry)) (now (memory .entry)) (fixedWords (now (words .entry))) (now (types .entry))
         (now (places .entry)) (now (firsts .entry)) (now (reads .entry)))
         → let given = run .running .given in
-        Holds (length (now (types .entry))) (inputWords (now (words .entry))) (r .known .bits) (now (words .exit))
+        Holds (length (now (types .entry))) (fixedWords (now (words .entry))) (r .known .bits) (now (words .exit))
         (finished (given .sheet) (given .inputs) (given .memory))
         × (r .rounds ≡ rounds (given .sheet) (given .inputs) (given .memory))) ⌝ }
 {
@@ -110,7 +110,7 @@ pub fn finish(
 }
 
 // Writes the word of each output's wire into its entry of the row.
-pub fn write_row(outputs: &[u8], words: &[u32; 80], row: &mut [u8])
+pub fn write_row(outputs: &[u8], words: &[u32; 144], row: &mut [u8])
     requires { ⌜ Below 64 (now outputs) × (length (now row) ≡ 4 * length (now outputs)) ⌝ }
     ensures { λ _. ⌜ now (row .exit) ≡ wordsOf (now (outputs .entry)) (now (words .entry)) ⌝ }
 {

@@ -1,7 +1,7 @@
 -- Types and data: what inputs, constants, cells and known wires hold, and the 32 bits that stand for it in rows and cells.
-use Prim.Native.Nat.{ℕ}
+use Prim.Native.Nat.{ℕ, _%_}
 use mathlib.Core.Bool.{Bool, true, cond}
-use lib.Dec.{eqb, ltb}
+use lib.Dec.{eqb, ltb, leb}
 use mir.Syntax.{w32}
 use mir.Val.{toZ, ofZ, SFits}
 use Rattle.sheet.specs.declared.Datum.{Datum}
@@ -13,6 +13,16 @@ pub data ValueType : Type 0 where
 -- type byte 0 is Boolean, 1 is number
 abbrev pub typeOfByte : ℕ → ValueType
 typeOfByte b = cond (eqb b 0) boolean number
+
+-- A wire's type byte (document 02, K7): the byte of its type, and 2 more where the wire is kept.
+abbrev pub plainByte : ℕ → ℕ
+plainByte b = b % 2
+
+abbrev pub isKept : ℕ → Bool
+isKept b = leb 2 b
+
+abbrev pub wireType : ℕ → ValueType
+wireType b = typeOfByte (plainByte b)
 
 abbrev pub typeOf : Datum → ValueType
 typeOf (Boolean b) = boolean

@@ -1,10 +1,11 @@
--- Two sheets with what their bytes say: document 01's quarter sheet, and one in which every kind occurs.
+-- Two sheets with what their bytes say: document 01's quarter sheet, and one in which every kind occurs; and bytes that misuse kept wires.
 use Prim.Native.Nat.{ℕ}
 use mathlib.Core.Bool.{true, false}
-use mathlib.Core.List.{List, [], _∷_}
+use mathlib.Core.List.{List, [], _∷_, _++_}
+use lib.ListN.{replicate}
 use lib.IntN.{pos}
 use Rattle.sheet.specs.Data.{boolean, number}
-use Rattle.sheet.specs.Expressions.{Expression, constant, wire, input, unary, binary, choose, reset, pre, fby}
+use Rattle.sheet.specs.Expressions.{Expression, constant, wire, input, last, unary, binary, choose, reset, pre, fby, kept}
 use Rattle.sheet.specs.Expressions.{negation, negative, conditional, present}
 use Rattle.sheet.specs.Expressions.{conjunction, disjunction, sum, difference, lessThan, equality}
 use Rattle.sheet.specs.Sheets.{Sheet}
@@ -32,9 +33,9 @@ quarterSheet = record {
 
 abbrev pub everyKindBytes : List ℕ
 everyKindBytes =
-    1 ∷ 1 ∷ 2 ∷ 0 ∷ 1 ∷ 1 ∷ 0
+    1 ∷ 1 ∷ 2 ∷ 0 ∷ 3 ∷ 1 ∷ 0
     ∷ 6 ∷ 4 ∷ 0 ∷ 1 ∷ 7 ∷ 10 ∷ 1 ∷ 1 ∷ 0 ∷ 0 ∷ 0 ∷ 5 ∷ 1 ∷ 2 ∷ 0 ∷ 0 ∷ 0 ∷ 11 ∷ 2 ∷ 1 ∷ 3 ∷ 0
-    ∷ 13 ∷ 15 ∷ 1 ∷ 2 ∷ 0 ∷ 17 ∷ 8 ∷ 2 ∷ 1 ∷ 3 ∷ 0 ∷ 9 ∷ 2 ∷ 1 ∷ 1 ∷ 3 ∷ 0 ∷ 0 ∷ 0
+    ∷ 13 ∷ 15 ∷ 1 ∷ 2 ∷ 0 ∷ 17 ∷ 8 ∷ 18 ∷ 1 ∷ 3 ∷ 0 ∷ 9 ∷ 2 ∷ 1 ∷ 1 ∷ 3 ∷ 0 ∷ 0 ∷ 0
     ∷ 14 ∷ 0 ∷ 0 ∷ 12 ∷ 2 ∷ 0 ∷ 16 ∷ 7 ∷ 0 ∷ 0 ∷ 0 ∷ 2 ∷ 1 ∷ 1 ∷ 4 ∷ 0 ∷ 0 ∷ 0 ∷ []
 
 abbrev pub everyKindSheet : Sheet
@@ -45,8 +46,22 @@ everyKindSheet = record {
   expressions =
       binary conjunction (unary negation (constant (Boolean true)))
       (binary disjunction (binary lessThan (natural 1) (unary negative (natural 2))) (binary equality (wire 1) (input 0)))
-      ∷ choose present (pre (Boolean true) (wire 0))
-      (fby number (binary sum (wire 1) (input 0)) (binary difference (wire 1) (natural 3)))
-      (reset (constant (Boolean false)) (choose conditional (wire 0) (pre (Number (pos 7)) (wire 1)) (natural 4)))
+      ∷ kept number (choose present (pre (Boolean true) (wire 0))
+      (fby number (binary sum (last 1) (input 0)) (binary difference (wire 1) (natural 3)))
+      (reset (constant (Boolean false)) (choose conditional (wire 0) (pre (Number (pos 7)) (wire 1)) (natural 4))))
       ∷ [];
 }
+
+-- wire type byte 4; input type byte 2; kind 19; kind 18 of a wire that is not kept, and of one that is not there; of the other type; cut; and
+-- a pre in wire 0, behind the cells of 64 kept wires
+abbrev pub misusedBytes : List (List ℕ)
+misusedBytes =
+    (0 ∷ 1 ∷ 4 ∷ 1 ∷ 0 ∷ 0 ∷ 0 ∷ [])
+    ∷ (1 ∷ 2 ∷ 1 ∷ 0 ∷ 1 ∷ 0 ∷ 0 ∷ 0 ∷ [])
+    ∷ (0 ∷ 1 ∷ 3 ∷ 1 ∷ 0 ∷ 19 ∷ 0 ∷ [])
+    ∷ (0 ∷ 1 ∷ 1 ∷ 1 ∷ 0 ∷ 18 ∷ 0 ∷ [])
+    ∷ (0 ∷ 1 ∷ 3 ∷ 1 ∷ 0 ∷ 18 ∷ 1 ∷ [])
+    ∷ (0 ∷ 2 ∷ 1 ∷ 2 ∷ 1 ∷ 0 ∷ 18 ∷ 1 ∷ [])
+    ∷ (0 ∷ 1 ∷ 3 ∷ 1 ∷ 0 ∷ 18 ∷ [])
+    ∷ (0 ∷ 64 ∷ (replicate 64 2 ++ (1 ∷ 0 ∷ 15 ∷ 0 ∷ 0 ∷ 0 ∷ [])))
+    ∷ []

@@ -1,17 +1,19 @@
--- Document 01's table of kinds, a row to a kind: bytes of body, cells owned, types of the operands, own type, and the tree.
+-- The table of kinds, those of document 01 and document 02's kind 18, a row to a kind: bytes of body, cells owned, types of the operands,
+-- own type, and the tree.
 use Prim.Native.Nat.{ℕ, _*_, _/_, _%_, _^_}
 use mathlib.Core.Path.{_≡_, refl}
-use mathlib.Core.Bool.{false, cond}
+use mathlib.Core.Bool.{Bool, false, not, _||_, cond}
 use mathlib.Core.List.{List, [], _∷_, map}
 use lib.ListN.{length, getD}
 use lib.Dec.{eqb, ltb}
-use Rattle.sheet.specs.Data.{ValueType, datumOf}
-use Rattle.sheet.specs.Expressions.{Expression, constant, wire, input, unary, binary, choose, reset, pre, fby}
+use Rattle.sheet.specs.Data.{ValueType, plainByte, isKept, datumOf}
+use Rattle.sheet.specs.Expressions.{Expression, constant, wire, input, last, unary, binary, choose, reset, pre, fby}
 use Rattle.sheet.specs.Expressions.{negation, negative, conditional, present}
 use Rattle.sheet.specs.Expressions.{conjunction, disjunction, sum, difference, lessThan, equality}
 use Rattle.sheet.specs.declared.Datum.the-variants.{Boolean}
 
--- In the table a type is its type byte; or, above every type byte, the type asked, the named wire's or the named input's.
+-- In the table a type is its type byte; or, above every type byte, the type asked, the named wire's, the named input's or that of the named
+-- wire, which is kept.
 abbrev pub boolean : ℕ
 boolean = 0
 
@@ -26,6 +28,9 @@ named-wire = 5
 
 abbrev pub named-input : ℕ
 named-input = 6
+
+abbrev pub named-kept : ℕ
+named-kept = 7
 
 -- what an expression means: its tree, from its type, the number in its body and the trees of its operands
 abbrev pub Meaning : Type 0
@@ -78,11 +83,12 @@ kinds =
     ∷ kind 1 1 (boolean ∷ []) boolean pre-of  -- 15 pre
     ∷ kind 4 1 (number ∷ []) number pre-of  -- 16 pre
     ∷ kind 0 1 (asked ∷ asked ∷ []) asked fby-of  -- 17 fby
+    ∷ kind 1 0 [] named-kept (names last)  -- 18 last
     ∷ []
 
 -- how many kinds there are
 abbrev pub kindCount : ℕ
-kindCount = 18
+kindCount = 19
 
 kinds-counted : length kinds ≡ kindCount
 kinds-counted = refl
@@ -131,14 +137,22 @@ typed t u = cond (eqb u asked) t u
 unfoldable pub operandsOf : ℕ → ℕ → List ℕ
 operandsOf k t = map (typed t) (getD (map operands kinds) k [])
 
+-- whether kind k names a wire
+abbrev pub namesWire : ℕ → Bool
+namesWire k = eqb (ownTypeOf k) named-wire || eqb (ownTypeOf k) named-kept
+
 -- what a body of one byte stays below: the wires or the inputs, of which it names one, or the two Booleans
 abbrev pub limitOf : List ℕ → List ℕ → ℕ → ℕ
-limitOf inputs wires k = cond (eqb (ownTypeOf k) named-wire) (length wires) (cond (eqb (ownTypeOf k) named-input) (length inputs) 2)
+limitOf inputs wires k = cond (namesWire k) (length wires) (cond (eqb (ownTypeOf k) named-input) (length inputs) 2)
+
+-- it names a wire that is not kept, and may only name a kept one
+abbrev pub namesUnkept : List ℕ → ℕ → ℕ → Bool
+namesUnkept wires k n = cond (eqb (ownTypeOf k) named-kept) (not (isKept (getD wires n 0))) false
 
 -- the type of an expression of kind k that names n, where t is asked
 abbrev pub foundOf : List ℕ → List ℕ → ℕ → ℕ → ℕ → ℕ
 foundOf inputs wires t k n =
-    cond (eqb (ownTypeOf k) named-wire) (getD wires n 0) (cond (eqb (ownTypeOf k) named-input) (getD inputs n 0) (typed t (ownTypeOf k)))
+    cond (namesWire k) (plainByte (getD wires n 0)) (cond (eqb (ownTypeOf k) named-input) (getD inputs n 0) (typed t (ownTypeOf k)))
 
 -- the type of operand i among the types that the code holds as one number: a bit to the first, one to the second, one to all later ones
 abbrev pub operandTypeIn : (types i : ℕ) → ℕ

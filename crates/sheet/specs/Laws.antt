@@ -2,6 +2,7 @@ pub mod Lists
 pub mod Lowest
 pub mod Outcomes
 pub mod Readings
+pub mod Wires
 pub mod Reads
 pub mod Headers
 pub mod Typing

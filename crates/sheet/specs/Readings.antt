@@ -7,7 +7,7 @@ use lib.Dec.{ltb, leb, eqb}
 use Rattle.numbers.specs.Words.{wordAt}
 use Rattle.sheet.specs.Data.{typeOfByte}
 use Rattle.sheet.specs.Expressions.{Expression}
-use Rattle.sheet.specs.Kinds.{bodyOf, cellsOf, operandsOf, limitOf, foundOf, meaningOf, kindCount}
+use Rattle.sheet.specs.Kinds.{bodyOf, cellsOf, operandsOf, limitOf, namesUnkept, foundOf, meaningOf, kindCount}
 use Rattle.sheet.specs.declared.Refusal.{Refusal}
 use Rattle.sheet.specs.declared.Refusal.the-variants.{Cut, Kind, Body, Level, TypeAsked, CellLimit}
 use Rattle.sheet.specs.declared.Read.{Read}
@@ -54,7 +54,8 @@ module _ (inputs wires s : List ℕ) where
   unfoldable pub namesOf : (t at n k : ℕ) → Read
   namesOf t at n k =
       cond (leb (limitOf inputs wires (getD s at 0)) (namedAt s at)) (Refused Body at)
-      (cond (eqb (foundOf inputs wires t (getD s at 0) (namedAt s at)) t) (Got n k) (Refused TypeAsked at))
+      (cond (namesUnkept wires (getD s at 0) (namedAt s at)) (Refused Body at)
+      (cond (eqb (foundOf inputs wires t (getD s at 0) (namedAt s at)) t) (Got n k) (Refused TypeAsked at)))
 
   -- 10 and 2: where c cells stand before it, a cell is left for it, and its body is whole
   unfoldable pub bodyFrom : (t at c : ℕ) → Read

@@ -1,21 +1,23 @@
 -- What an expression reads within the instant: the wires and the inputs that it names, but not anywhere under a pre's operand or an
--- fby's right operand.
+-- fby's right operand. Kind 18 reads nothing: it gives a cell.
 use Prim.Native.Nat.{ℕ}
 use mathlib.Core.Bool.{cond}
 use mathlib.Core.List.{List, [], _∷_, _++_}
 use lib.Dec.{eqb}
-use Rattle.sheet.specs.Expressions.{Expression, constant, wire, input, unary, binary, choose, reset, pre, fby}
+use Rattle.sheet.specs.Expressions.{Expression, constant, wire, input, last, unary, binary, choose, reset, pre, fby, kept}
 
 unfoldable pub wiresRead : Expression → List ℕ
 wiresRead (constant d) = []
 wiresRead (wire w) = w ∷ []
 wiresRead (input i) = []
+wiresRead (last w) = []
 wiresRead (unary o a) = wiresRead a
 wiresRead (binary o a b) = wiresRead a ++ wiresRead b
 wiresRead (choose o c a b) = wiresRead c ++ (wiresRead a ++ wiresRead b)
 wiresRead (reset c a) = wiresRead c ++ wiresRead a
 wiresRead (pre d a) = []
 wiresRead (fby t a b) = wiresRead a
+wiresRead (kept t a) = wiresRead a
 
 -- what several expressions read, one after the other
 unfoldable pub allRead : List Expression → List ℕ
@@ -30,9 +32,11 @@ unfoldable pub inputsRead : Expression → List ℕ
 inputsRead (constant d) = []
 inputsRead (wire w) = []
 inputsRead (input i) = i ∷ []
+inputsRead (last w) = []
 inputsRead (unary o a) = inputsRead a
 inputsRead (binary o a b) = inputsRead a ++ inputsRead b
 inputsRead (choose o c a b) = inputsRead c ++ (inputsRead a ++ inputsRead b)
 inputsRead (reset c a) = inputsRead c ++ inputsRead a
 inputsRead (pre d a) = []
 inputsRead (fby t a b) = inputsRead a
+inputsRead (kept t a) = inputsRead a

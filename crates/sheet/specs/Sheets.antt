@@ -1,11 +1,11 @@
 -- A sheet: what its bytes say, or the first refusal 1 to 11 with its place; and what the check answers.
-use Prim.Native.Nat.{ℕ, _-_}
+use Prim.Native.Nat.{ℕ, _+_, _-_}
 use mathlib.Core.Bool.{cond, true, false}
 use mathlib.Core.List.{List, [], _∷_, _++_, map}
 use lib.ListN.{length, getD, take, drop}
 use lib.Dec.{ltb, eqb}
-use Rattle.sheet.specs.Data.{ValueType, typeOfByte}
-use Rattle.sheet.specs.Expressions.{Expression, constant, CellForm, cellForms}
+use Rattle.sheet.specs.Data.{ValueType, typeOfByte, plainByte, isKept, wireType}
+use Rattle.sheet.specs.Expressions.{Expression, constant, kept, CellForm, cellForms}
 use Rattle.sheet.specs.Outcomes.{Outcome, refusal, result, packedRefusal}
 use Rattle.sheet.specs.Readings.{Reading, refused, got, andThen, onRead, readEach, readExpression}
 use Rattle.sheet.specs.Headers.{sectionOf}
@@ -40,13 +40,34 @@ sheetForms sheet = formsOf (sheet .expressions)
 abbrev pub before : List ℕ → ℕ → ℕ → List ℕ
 before s at n = take n (drop (at - n) s)
 
--- the rest of a sheet from `at` on: the expressions, one for each wire at level 1 of 16, and nothing behind them
+-- the tree of a wire with this type byte: a kept wire owns a cell, which comes before those of its expression
+abbrev pub wireTree : ℕ → Expression → Expression
+wireTree b e = cond (isKept b) (kept (wireType b) e) e
+
+-- how many cells such a wire owns itself
+abbrev pub ownCells : ℕ → ℕ
+ownCells b = cond (isKept b) 1 0
+
+-- how many of these wires are kept
+unfoldable pub keptCount : List ℕ → ℕ
+keptCount [] = 0
+keptCount (b ∷ bs) = ownCells b + keptCount bs
+
+-- the expression of a wire, at level 1 of 16
+abbrev pub readWire : (inputs wires s : List ℕ) → (byte at c : ℕ) → Reading Expression
+readWire inputs wires s b at c = andThen (readExpression inputs wires s 16 (plainByte b) at c) (λ e n k. got (wireTree b e) n k)
+
+-- one expression for each wire; the count of cells has all those of kept wires from the start
+unfoldable pub readWires : (inputs wires s : List ℕ) → ℕ → Reading (List Expression)
+readWires inputs wires s at = readEach (readWire inputs wires s) wires at (keptCount wires)
+
+-- the rest of a sheet from `at` on: the expressions, and nothing behind them
 abbrev pub expressionsFrom : (s inputs wires outputs : List ℕ) → ℕ → Reading Sheet
 expressionsFrom s inputs wires outputs at =
-    andThen (readEach (readExpression inputs wires s 16) wires at 0) (λ es end count.
+    andThen (readWires inputs wires s at) (λ es end count.
     cond (ltb end (length s)) (refused LeftOver end)
     (got
-    (record { inputTypes = map typeOfByte inputs; wireTypes = map typeOfByte wires; outputs = outputs; expressions = es })
+    (record { inputTypes = map typeOfByte inputs; wireTypes = map wireType wires; outputs = outputs; expressions = es })
     end count))
 
 -- the rest from the outputs on, each of them a wire and above the one before
@@ -54,9 +75,9 @@ unfoldable pub outputsFrom : (s inputs wires : List ℕ) → ℕ → Reading She
 outputsFrom s inputs wires at =
     onRead (sectionOf s at 1 17 (length wires) true OutputWire) refused (λ n k. expressionsFrom s inputs wires (before s n k) n)
 
--- the rest from the wires on, each with its type
+-- the rest from the wires on, each with its type, kept or not
 unfoldable pub wiresFrom : (s inputs : List ℕ) → ℕ → Reading Sheet
-wiresFrom s inputs at = onRead (sectionOf s at 1 65 2 false TypeByte) refused (λ n k. outputsFrom s inputs (before s n k) n)
+wiresFrom s inputs at = onRead (sectionOf s at 1 65 4 false TypeByte) refused (λ n k. outputsFrom s inputs (before s n k) n)
 
 -- the whole, from the inputs with their types on
 unfoldable pub readSheet : List ℕ → Reading Sheet

@@ -2,8 +2,22 @@
 // A type is given by its type byte: 0 is Boolean, any other is number.
 use crate::Datum;
 ghost use mathlib.Core.Path.{_≡_};
-ghost use Rattle.sheet.specs.Data.{typeOfByte, datumOf, wordOf, standsFor};
+ghost use Rattle.sheet.specs.Data.{typeOfByte, plainByte, isKept, datumOf, wordOf, standsFor};
 ghost use Rattle.sheet.specs.declared.Datum.the-variants.{Boolean};
+
+// The byte of a wire's type, from the wire's type byte.
+pub fn plain(byte: u8) -> u8
+    ensures { λ r. ⌜ r ≡ plainByte byte ⌝ }
+{
+    byte % 2
+}
+
+// Whether a wire with this type byte is kept.
+pub fn is_kept(byte: u8) -> bool
+    ensures { λ r. ⌜ r ≡ isKept byte ⌝ }
+{
+    2 <= byte
+}
 
 // The datum of the type that a word stands for.
 pub fn datum_of(byte: u8, word: u32) -> Datum

@@ -9,16 +9,19 @@ ghost use Rattle.sheet.specs.Kinds.{kindCount, bodyOf, cellsOf, countOf,
 ghost use Rattle.sheet.specs.Kinds.{digitOf, operandTypeIn};
 
 // How many kinds there are.
-pub const COUNT: u8 = 18;
+pub const COUNT: u8 = 19;
+
+// The kind that names a kept wire.
+pub const LAST: u8 = 18;
 
 // The columns, each a number with one octal digit to a kind, that of kind 0 last, so that a digit is found by a shift: bytes of
 // body, cells owned, own type, count of operands, and how many of them are read within the instant. A type is 0 for a Boolean or 1 for a
-// number; or 4 for the type asked, 5 for the named wire's, 6 for the named input's.
-const BODIES: u64 = 0o041000000000001141;
+// number; or 4 for the type asked, 5 for the named wire's, 6 for the named input's, 7 for that of the named wire, which is kept.
+const BODIES: u64 = 0o1041000000000001141;
 
 const CELLS: u64 = 0o111000000000000000;
 
-const OWN_TYPES: u64 = 0o410444001100106510;
+const OWN_TYPES: u64 = 0o7410444001100106510;
 
 const OPERANDS: u64 = 0o211233222222110000;
 

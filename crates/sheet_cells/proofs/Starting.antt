@@ -38,7 +38,7 @@ pub own-length : (s : List ℕ) (at : ℕ) → getD s at 0 < kindCount → lengt
 own-length s at l =
     every-kind (λ k. (c : Cell) → length (cond (eqb (cellsOf k) 0) [] (cellBytes c)) ≡ 5 * cellsOf k)
     (none ▸ none ▸ none ▸ none ▸ none ▸ none ▸ none ▸ none ▸ none ▸ none ▸ none ▸ none ▸ none ▸ none ▸ none
-    ▸ cell-length ▸ cell-length ▸ cell-length ▸ end)
+    ▸ cell-length ▸ cell-length ▸ cell-length ▸ none ▸ end)
     (getD s at 0) l (ownCell (getD s at 0) (bodyAt s at))
   where
     none : Cell → _≡_ {A = ℕ} 0 0

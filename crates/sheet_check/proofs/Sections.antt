@@ -19,10 +19,12 @@ pub span : {s : List ℕ} {at fewest excess limit n k : ℕ} → SectionGood s a
 span g = omega (arith, g .bytes .next)
 
 -- the type bytes of a section
-pub section-types : {s : List ℕ} {at fewest excess n k : ℕ} → excess ≤ 65 → SectionGood s at fewest excess 2 n k → TypeBytes (before s n k)
-section-types {s} {n = n} {k = k} most g = record { few = omega (arith, section-length g, g .below); each = λ i. go i (ltb i k) refl }
+pub section-types : {s : List ℕ} {at fewest excess limit n k : ℕ} → excess ≤ 65 → 1 ≤ limit → SectionGood s at fewest excess limit n k
+    → TypeBytes limit (before s n k)
+section-types {s} {limit = limit} {n = n} {k = k} most some g =
+    record { few = omega (arith, section-length g, g .below); each = λ i. go i (ltb i k) refl }
   where
-    go : (i : ℕ) (t : Bool) → ltb i k ≡ t → getD (before s n k) i 0 < 2
+    go : (i : ℕ) (t : Bool) → ltb i k ≡ t → getD (before s n k) i 0 < limit
     go i true e = section-byte g i (ltb-true i k e)
     go i false e =
         rw (List·getD-eq-default (before s n k) 0 {n = i} (omega (arith, section-length g, ltb-false i k e))) (omega arith)
@@ -30,7 +32,7 @@ section-types {s} {n = n} {k = k} most g = record { few = omega (arith, section-
 -- the map of a sheet that reads, section by section
 pub sheet-mapped : {s : List ℕ} {sheet : Sheet} {n k : ℕ} (v : SheetRead s sheet n k) {next count : ℕ} {places firsts reads cells : List ℕ}
     → sectionOf s 0 0 17 2 false TypeByte ≡ Got next count
-    → whereGot (sectionOf s next 1 65 2 false TypeByte)
+    → whereGot (sectionOf s next 1 65 4 false TypeByte)
     (λ m j. whereGot (sectionOf s m 1 17 (length (before s m j)) true OutputWire) (λ o i.
     Drawn (before s next count) (before s m j) s o places firsts reads cells)) → Mapped (wiresOf v) places firsts reads cells
 sheet-mapped {s} {sheet} {n} {k} v {next} {count} e h =

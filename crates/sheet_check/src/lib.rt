@@ -63,7 +63,7 @@ pub fn check_map(
     }
 }
 
-// The rest of a sheet from `at` on: the wires, each with its type.
+// The rest of a sheet from `at` on: the wires, each with its type, kept or not.
 fn wires_from(
     sheet: &[u8],
     inputs: &[u8],
@@ -73,15 +73,15 @@ fn wires_from(
     reads: &mut [u64; 64],
     cells: &mut [u16; 64],
 ) -> Checked
-    requires { ⌜ TypeBytes (now inputs) × (length (now sheet) ≤ 4096)
+    requires { ⌜ TypeBytes 2 (now inputs) × (length (now sheet) ≤ 4096)
         × Tables (now places) (now firsts) (now reads) (now cells) ⌝ }
     ensures { λ r. ⌜ r ≡ checkedOf (wiresFrom (now (sheet .entry)) (now (inputs .entry)) at) ⌝ }
-    ensures { λ _. ⌜ whereGot (sectionOf (now (sheet .entry)) at 1 65 2 false TypeByte) (λ n k.
+    ensures { λ _. ⌜ whereGot (sectionOf (now (sheet .entry)) at 1 65 4 false TypeByte) (λ n k.
         whereGot (sectionOf (now (sheet .entry)) n 1 17 (length (before (now (sheet .entry)) n k)) true OutputWire) (λ m j.
         Drawn (now (inputs .entry)) (before (now (sheet .entry)) n k) (now (sheet .entry)) m
         (now (places .exit)) (now (firsts .exit)) (now (reads .exit)) (now (cells .exit)))) ⌝ }
 {
-    match sheet_header::section(sheet, at, 1, 65, 2, false, Refusal::TypeByte) {
+    match sheet_header::section(sheet, at, 1, 65, 4, false, Refusal::TypeByte) {
         Read::Refused { why, place } => Checked::Refused { why, place },
         Read::Got { next, count } => outputs_from(
             sheet,
@@ -107,7 +107,7 @@ fn outputs_from(
     reads: &mut [u64; 64],
     cells: &mut [u16; 64],
 ) -> Checked
-    requires { ⌜ TypeBytes (now inputs) × TypeBytes (now wires) × (length (now sheet) ≤ 4096)
+    requires { ⌜ TypeBytes 2 (now inputs) × TypeBytes 4 (now wires) × (length (now sheet) ≤ 4096)
         × Tables (now places) (now firsts) (now reads) (now cells) ⌝ }
     ensures { λ r. ⌜ r ≡ checkedOf (outputsFrom (now (sheet .entry)) (now (inputs .entry)) (now (wires .entry)) at) ⌝ }
     ensures { λ _. ⌜ whereGot (sectionOf (now (sheet .entry)) at 1 17 (length (now (wires .entry))) true OutputWire) (λ n k.
@@ -142,15 +142,24 @@ fn expressions_from(
     reads: &mut [u64; 64],
     cells: &mut [u16; 64],
 ) -> Checked
-    requires { ⌜ TypeBytes (now inputs) × TypeBytes (now wires) × (length (now sheet) ≤ 4096) × (at ≤ length (now sheet))
+    requires { ⌜ TypeBytes 2 (now inputs) × TypeBytes 4 (now wires) × (length (now sheet) ≤ 4096) × (at ≤ length (now sheet))
         × Tables (now places) (now firsts) (now reads) (now cells) ⌝ }
     ensures { λ r. ⌜ r ≡ checkedOf (expressionsFrom (now (sheet .entry)) (now (inputs .entry)) (now (wires .entry))
         (now (outputs .entry)) at) ⌝ }
     ensures { λ _. ⌜ Drawn (now (inputs .entry)) (now (wires .entry)) (now (sheet .entry)) at
         (now (places .exit)) (now (firsts .exit)) (now (reads .exit)) (now (cells .exit)) ⌝ }
 {
-    let names = sheet_names::names_of(inputs, wires);
-    match sheet_expressions::check_wires(&sheet, &names, wires, at, places, firsts, reads, cells) {
+    let mut names = sheet_names::names_of(inputs, wires);
+    match sheet_expressions::check_wires(
+        &sheet,
+        &mut names,
+        wires,
+        at,
+        places,
+        firsts,
+        reads,
+        cells,
+    ) {
         Read::Refused { why, place } => Checked::Refused { why, place },
         Read::Got { next, count } => {
             if next < sheet.len() {

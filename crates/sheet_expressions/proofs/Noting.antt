@@ -12,19 +12,19 @@ use lib.Seq.{sets, drop-cons}
 use borrow.Author.Tests.{ltb-true, ltb-false, ne-eqb}
 use Rattle.numbers.specs.Laws.{sets-append}
 use Rattle.wires.specs.Sets.{member}
-use Rattle.sheet.specs.Data.{ValueType, boolean, number, typeOf, typeOfByte, datumOf}
-use Rattle.sheet.specs.Expressions.{Expression, CellForm, preCell, fbyCell, cellForms}
-use Rattle.sheet.specs.Kinds.{cellsOf, bodyOf, countOf, readCountOf, operandsOf}
+use Rattle.sheet.specs.Data.{ValueType, boolean, number, typeOf, typeOfByte, plainByte, isKept, wireType, datumOf}
+use Rattle.sheet.specs.Expressions.{Expression, CellForm, preCell, fbyCell, keptCell, cellForms}
+use Rattle.sheet.specs.Kinds.{kindCount, cellsOf, bodyOf, countOf, readCountOf, operandsOf}
 use Rattle.sheet.specs.Lists.{among}
 use Rattle.sheet.specs.Reads.{wiresRead, allRead, wiresNamed}
-use Rattle.sheet.specs.Readings.{Reading, got, erased, readEach, namedAt, bodyAt, ownOf, readExpression, Whole}
+use Rattle.sheet.specs.Readings.{Reading, got, erased, readEach, namedAt, bodyAt, bodyFrom, ownOf, readExpression, Whole}
 use Rattle.sheet.specs.Sheets.{formsOf, before}
 use Rattle.sheet.specs.Memory.{typeByte, formByte, startMemory, ownCell}
 use Rattle.sheet.specs.Typing.{Pairwise, done, _then_}
 use Rattle.sheet.specs.Laws.Lists.{among-append}
 use Rattle.sheet.specs.Laws.Readings.{not-good, kinds-between, _▸_, end, OwnGood, own-good, ExpressionRead, run-view, expression-view}
 use Rattle.sheet.specs.Laws.Readings.{ownForms, own-starts, forms-of-kind, own-forms-length, forms-length, operands-counted}
-use Rattle.sheet.specs.Laws.Readings.{expression-extent, run-extent}
+use Rattle.sheet.specs.Laws.Readings.{ExpressionExtent, expression-extent, run-extent}
 use Rattle.sheet.specs.Laws.Reads.{reads-of-kind}
 use Rattle.sheet.specs.declared.Refusal.{Refusal}
 use Rattle.sheet.specs.declared.Read.{Read}
@@ -32,27 +32,43 @@ use Rattle.sheet.specs.declared.Read.the-variants.{Refused, Got}
 use Rattle.sheet.specs.declared.Cell.the-variants.{NotStarted, Started}
 use Rattle.sheet_own.specs.Own.{Joins, LeafChecks, ownEntries}
 use Rattle.sheet_own.proofs.Nodes.{leaf-cells}
-use Rattle.sheet_expressions.specs.Map.{CellNoted, Entered, Checks}
+use Rattle.sheet_expressions.specs.Map.{noOwner, CellNoted, Entered, keptForms, Checks}
 use Rattle.sheet_expressions.proofs.Steps.{own-refused, own-passed, by-operands, is-got}
 
--- a leaf has no operands and owns no cell
-leaf-operands : (k : ℕ) → k < 4 → countOf k ≡ 0
-leaf-operands k l = kinds-between (λ k. countOf k ≡ 0) {low = 0} (refl ▸ refl ▸ refl ▸ refl ▸ end) k (omega arith) l
+-- an expression without operands and without a cell: a leaf, or what gives the cell of a kept wire
+pub record Bare (k : ℕ) : Type 0 where
+  pub known : k < kindCount
+  pub operands : countOf k ≡ 0
+  pub cells : cellsOf k ≡ 0
 
-pub leaf-counted : (k : ℕ) → k < 4 → readCountOf k ≡ 0
-leaf-counted k l = kinds-between (λ k. readCountOf k ≡ 0) {low = 0} (refl ▸ refl ▸ refl ▸ refl ▸ end) k (omega arith) l
+pub leaf-bare : (k : ℕ) → k < 4 → Bare k
+leaf-bare k l = record {
+  known = omega arith;
+  operands = kinds-between (λ k. countOf k ≡ 0) {low = 0} (refl ▸ refl ▸ refl ▸ refl ▸ end) k (omega arith) l;
+  cells = leaf-cells k l;
+}
 
-leaf-forms : (k : ℕ) → k < 4 → (type : ValueType) (body : ℕ) (os : List Expression) → length os ≡ 0
+last-bare : Bare 18
+last-bare = record { known = omega arith; operands = refl; cells = refl }
+
+bare-forms : {k : ℕ} → Bare k → (type : ValueType) (body : ℕ) (os : List Expression) → length os ≡ 0
     → ownForms k type body ++ formsOf os ≡ []
 unfolding formsOf
-leaf-forms k l type body [] e = rw (leaf-cells k l)
-leaf-forms k l type body (a ∷ os) e = absurd (omega arith)
+bare-forms bare type body [] e = rw (bare .cells)
+bare-forms bare type body (a ∷ os) e = absurd (omega arith)
 
-leaf-reads : (k : ℕ) → k < 4 → (body : ℕ) (os : List Expression) → length os ≡ 0
+-- so that none is read within the instant
+bare-counted : {k : ℕ} → Bare k → readCountOf k ≡ 0
+bare-counted bare = rw (bare .cells, bare .operands)
+
+pub leaf-counted : (k : ℕ) → k < 4 → readCountOf k ≡ 0
+leaf-counted k l = bare-counted (leaf-bare k l)
+
+bare-reads : {k : ℕ} → Bare k → (body : ℕ) (os : List Expression) → length os ≡ 0
     → wiresNamed k body ++ allRead (take (readCountOf k) os) ≡ wiresNamed k body
 unfolding allRead
-leaf-reads k l body [] e = rw (leaf-counted k l) (append-nil (wiresNamed k body))
-leaf-reads k l body (a ∷ os) e = absurd (omega arith)
+bare-reads {k} bare body [] e = rw (bare-counted bare) (append-nil (wiresNamed k body))
+bare-reads bare body (a ∷ os) e = absurd (omega arith)
 
 -- a type byte is that of its type
 type-back : (t : ℕ) → t < 2 → typeByte (typeOfByte t) ≡ t
@@ -86,12 +102,12 @@ entered-append fs gs {c} {k} {before} e p q = record {
       q .placed ∙ rw (p .placed, e, ← (pairs-length (p .noted))) (sym (sets-append (p .entries) (q .entries) before c));
 }
 
--- the cell that an expression itself owns
-pub own-entered : (inputs wires s : List ℕ) (level t at c : ℕ) {n k : ℕ} {before after : List ℕ} → t < 2
-    → OwnGood inputs wires s level t at c n k → after ≡ sets before c (ownEntries (getD s at 0) t at)
-    → Entered s (ownForms (getD s at 0) (typeOfByte t) (bodyAt s at)) c before after
+-- the cell that an expression itself owns, which has number d
+pub own-entered : (inputs wires s : List ℕ) (level t at c : ℕ) {d n k : ℕ} {before after : List ℕ} → t < 2 → length s ≤ 4096
+    → OwnGood inputs wires s level t at c n k → after ≡ sets before d (ownEntries (getD s at 0) t at)
+    → Entered s (ownForms (getD s at 0) (typeOfByte t) (bodyAt s at)) d before after
 unfolding startMemory
-own-entered inputs wires s level t at c {n} {k} {before} {after} l g e =
+own-entered inputs wires s level t at c {d} {n} {k} {before} {after} l few g e =
     let kind = getD s at 0 in
     go (eqb (cellsOf kind) 0) (eqb (bodyOf kind) 0)
     (own-starts inputs wires t (namedAt s at) (bodyAt s at) kind (g .kind) (g .type)) e
@@ -104,14 +120,15 @@ own-entered inputs wires s level t at c {n} {k} {before} {after} l g e =
     noted of form small is starts =
         let place : (4 * at + form) / 4 ≡ at = omega arith in
         let rest : (4 * at + form) % 4 ≡ form = omega arith in
-        record { owner = whole (4 * at + form) place; starts = rw place (sym starts); form = rest ∙ sym is }
+        let owned : eqb at noOwner ≡ false = ne-eqb at noOwner (λ e. omega (arith, g .starts)) in
+        record { owner = λ other. whole (4 * at + form) place; starts = rw (place, owned) (sym starts); form = rest ∙ sym is }
 
-    go : (b d : Bool) →
-        startMemory (cond b [] (cond d (fbyCell (typeOfByte t) ∷ []) (preCell (datumOf (typeOfByte t) (bodyAt s at)) ∷ [])))
+    go : (b f : Bool) →
+        startMemory (cond b [] (cond f (fbyCell (typeOfByte t) ∷ []) (preCell (datumOf (typeOfByte t) (bodyAt s at)) ∷ [])))
         ≡ cond b [] (ownCell (getD s at 0) (bodyAt s at) ∷ [])
-        → after ≡ sets before c (cond b [] (cond d (4 * at + t + 2) (4 * at + t) ∷ []))
-        → Entered s (cond b [] (cond d (fbyCell (typeOfByte t) ∷ []) (preCell (datumOf (typeOfByte t) (bodyAt s at)) ∷ []))) c before after
-    go true d starts e = record { entries = []; noted = done; placed = e }
+        → after ≡ sets before d (cond b [] (cond f (4 * at + t + 2) (4 * at + t) ∷ []))
+        → Entered s (cond b [] (cond f (fbyCell (typeOfByte t) ∷ []) (preCell (datumOf (typeOfByte t) (bodyAt s at)) ∷ []))) d before after
+    go true f starts e = record { entries = []; noted = done; placed = e }
     go false true starts e =
         let sum : 4 * at + t + 2 ≡ 4 * at + (t + 2) = omega arith in
         let start : NotStarted ≡ ownCell (getD s at 0) (bodyAt s at) = cc in
@@ -128,6 +145,19 @@ own-entered inputs wires s level t at c {n} {k} {before} {after} l g e =
               start then done;
           placed = e;
         }
+
+-- the cell that a wire itself owns, if it is kept: its entry is that of no owner, with the type byte
+pub kept-entered : (byte : ℕ) {s : List ℕ} {d : ℕ} {before after : List ℕ} → isKept byte ≡ true
+    → after ≡ sets before d ((16384 + plainByte byte) ∷ []) → Entered s (keptForms byte) d before after
+kept-entered byte {s} is e =
+    let owner : (16384 + plainByte byte) / 4 ≡ noOwner = omega arith in
+    let form : (16384 + plainByte byte) % 4 ≡ plainByte byte = omega arith in
+    let noted : CellNoted s (keptCell (wireType byte)) (16384 + plainByte byte) = record {
+      owner = λ other. absurd (other owner);
+      starts = rw (owner, form);
+      form = form ∙ rw (type-back (plainByte byte) (omega arith), add-zero);
+    } in
+    rw is (record { entries = (16384 + plainByte byte) ∷ []; noted = noted then done; placed = e })
 
 -- What is joined to a set.
 pub joins-none : {bits : ℕ} → Joins bits [] bits
@@ -149,47 +179,41 @@ refused-checks e =
     record { answers = e; cells = λ a n k q. not-good (e ∙ ap erased q); reads = λ a n k q. not-good (e ∙ ap erased q) }
 
 -- own bytes that are refused
-pub own-stops : (inputs wires s : List ℕ) (level t at c : ℕ) {answer : Read} {why : Refusal} {place : ℕ} {first after : List ℕ}
+pub own-stops : (inputs wires s : List ℕ) (level t at c : ℕ) {answer : Read} {why : Refusal} {d place : ℕ} {first after : List ℕ}
     {bits joint : ℕ} → answer ≡ Refused why place → ownOf inputs wires s level t at c ≡ Refused why place
-    → Checks s cellForms wiresRead (readExpression inputs wires s level t at c) c answer first after bits joint
+    → Checks s cellForms wiresRead (readExpression inputs wires s level t at c) d answer first after bits joint
 own-stops inputs wires s level t at c a e = rw a (refused-checks (own-refused inputs wires s t at c level e))
 
--- behind an expression that was read stand at most 64 cells
-pub limit : (inputs wires s : List ℕ) (level t at c : ℕ) {n k bits joint : ℕ} {answer : Read} {before after : List ℕ}
-    → Checks s cellForms wiresRead (readExpression inputs wires s level t at c) c answer before after bits joint → answer ≡ Got n k → k ≤ 64
-limit inputs wires s level t at c {n} {k} h e =
+-- where an expression that was read ends, and the cells that are counted behind it
+pub extent : (inputs wires s : List ℕ) (level t at c : ℕ) {d n k bits joint : ℕ} {answer : Read} {before after : List ℕ}
+    → Checks s cellForms wiresRead (readExpression inputs wires s level t at c) d answer before after bits joint → answer ≡ Got n k
+    → (e : Expression) × ExpressionExtent s at c e n k
+extent inputs wires s level t at c h e =
     let (tree, read) = is-got (readExpression inputs wires s level t at c) (sym (h .answers) ∙ e) in
-    expression-extent inputs wires s level t at c read .limited
+    (tree, expression-extent inputs wires s level t at c read)
 
--- and it ends in the sheet
-pub reach : (inputs wires s : List ℕ) (level t at c : ℕ) {n k bits joint : ℕ} {answer : Read} {before after : List ℕ}
-    → Checks s cellForms wiresRead (readExpression inputs wires s level t at c) c answer before after bits joint → answer ≡ Got n k
-    → n ≤ length s
-reach inputs wires s level t at c {n} {k} h e =
-    let (tree, read) = is-got (readExpression inputs wires s level t at c) (sym (h .answers) ∙ e) in
-    expression-extent inputs wires s level t at c read .within
-
--- what is left of a run from `at` on, with c cells before it, of which `counted` expressions are still read within the instant: once its
--- cells are noted and its reads joined, those of the whole run are
-pub record Left (s : List ℕ) (read : ℕ → ℕ → ℕ → Reading Expression) (ts : List ℕ) (at c n k : ℕ) (forms : List CellForm) (first : ℕ)
-    (before between : List ℕ) (counted : ℕ) (ws : List ℕ) (start bits : ℕ) : Type 0 where
+-- what is left of a run from `at` on, with c cells counted before it, of which some are ahead, and of which `counted` expressions are
+-- still read within the instant: once its cells are noted and its reads joined, those of the whole run are
+pub record Left (s : List ℕ) (read : ℕ → ℕ → ℕ → Reading Expression) (ahead : ℕ) (ts : List ℕ) (at c n k : ℕ) (forms : List CellForm)
+    (first : ℕ) (before between : List ℕ) (counted : ℕ) (ws : List ℕ) (start bits : ℕ) : Type 0 where
   pub rest : List Expression
   pub reads : readEach read ts at c ≡ got rest n k
-  pub completes : {after : List ℕ} → Entered s (formsOf rest) c between after → Entered s forms first before after
+  pub completes : {after : List ℕ} → Entered s (formsOf rest) (c - ahead) between after → Entered s forms first before after
   pub joins : {joint : ℕ} → Joins bits (allRead (take counted rest)) joint → Joins start ws joint
 
-module _ (inputs wires s : List ℕ) (level : ℕ) where
+module _ (inputs wires s : List ℕ) (level ahead : ℕ) where
   abbrev read : ℕ → ℕ → ℕ → Reading Expression
   read = readExpression inputs wires s level
 
   -- one expression more, whose reads are kept where it is one of those that count
   pub left-step : (types : List ℕ) (counted i at c : ℕ) {m j n k first start bits joint : ℕ} {answer : Read} {forms : List CellForm}
-      {before between next : List ℕ} {ws : List ℕ} → i < length types → answer ≡ Got m j
-      → Checks s cellForms wiresRead (read (getD types i 0) at c) c answer between next bits joint
-      → Left s read (drop i types) at c n k forms first before between (counted - i) ws start bits
-      → Left s read (drop (i + 1) types) m j n k forms first before next (counted - (i + 1)) ws start (cond (ltb i counted) joint bits)
+      {before between next : List ℕ} {ws : List ℕ} → i < length types → ahead ≤ c → answer ≡ Got m j
+      → Checks s cellForms wiresRead (read (getD types i 0) at c) (c - ahead) answer between next bits joint
+      → Left s read ahead (drop i types) at c n k forms first before between (counted - i) ws start bits
+      → Left s read ahead (drop (i + 1) types) m j n k forms first before next (counted - (i + 1)) ws start
+      (cond (ltb i counted) joint bits)
   unfolding formsOf allRead
-  left-step types counted i at c {m} {j} {n} {k} {bits = bits} {joint = joint} more e h left =
+  left-step types counted i at c {m} {j} {n} {k} {bits = bits} {joint = joint} more room e h left =
       let t = getD types i 0 in
       let whole : readEach read (t ∷ drop (suc i) types) at c ≡ got (left .rest) n k = rw (drop-cons types i 0) at (left .reads) in
       let v = run-view read t (drop (suc i) types) at c whole in
@@ -197,7 +221,7 @@ module _ (inputs wires s : List ℕ) (level : ℕ) where
       let at-next : v .next ≡ m = cc (ap erased (v .first), same) in
       let at-count : v .count ≡ j = cc (ap erased (v .first), same) in
       let x = expression-extent inputs wires s level t at c (v .first) in
-      let cells : j ≡ c + length (cellForms (v .head)) = omega (arith, x .counted, forms-length (v .head)) in
+      let cells : j - ahead ≡ c - ahead + length (cellForms (v .head)) = omega (arith, x .counted, forms-length (v .head)) in
       let here = h .cells (v .head) (v .next) (v .count) (v .first) in
       record {
         rest = v .tail;
@@ -225,7 +249,7 @@ module _ (inputs wires s : List ℕ) (level : ℕ) where
               rw none (rw none-behind at behind)
 
   pub left-none : (types : List ℕ) (i at c : ℕ) {n k first counted start bits : ℕ} {forms : List CellForm} {before between ws : List ℕ}
-      → length types ≤ i → Left s read (drop i types) at c n k forms first before between counted ws start bits
+      → length types ≤ i → Left s read ahead (drop i types) at c n k forms first before between counted ws start bits
       → Entered s forms first before between × Joins start ws bits
   unfolding readEach formsOf allRead
   left-none types i at c {n} {k} {counted = counted} over left =
@@ -238,23 +262,25 @@ module _ (inputs wires s : List ℕ) (level : ℕ) where
       nothing (suc n) = refl
 
 -- an expression's own cell, then those of its operands; what it reads is what they read
-pub whole-checks : (inputs wires s : List ℕ) (level t at c : ℕ) {n k bits joint : ℕ} {answer : Read} {first next after : List ℕ}
-    → t < 2 → 4 ≤ getD s at 0 → ownOf inputs wires s level t at c ≡ Got n k → next ≡ sets first c (ownEntries (getD s at 0) t at)
+pub whole-checks : (inputs wires s : List ℕ) (ahead level t at c : ℕ) {n k bits joint : ℕ} {answer : Read} {first next after : List ℕ}
+    → t < 2 → length s ≤ 4096 → ahead ≤ c → 4 ≤ getD s at 0 → ownOf inputs wires s level t at c ≡ Got n k
+    → next ≡ sets first (c - ahead) (ownEntries (getD s at 0) t at)
     → Checks s formsOf (λ es. allRead (take (readCountOf (getD s at 0)) es))
-    (readEach (readExpression inputs wires s (level - 1)) (operandsOf (getD s at 0) t) n k) k answer next after bits joint
-    → Checks s cellForms wiresRead (readExpression inputs wires s level t at c) c answer first after bits joint
-whole-checks inputs wires s zero t at c small node own h g =
+    (readEach (readExpression inputs wires s (level - 1)) (operandsOf (getD s at 0) t) n k) (k - ahead) answer next after bits
+    joint
+    → Checks s cellForms wiresRead (readExpression inputs wires s level t at c) (c - ahead) answer first after bits joint
+whole-checks inputs wires s ahead zero t at c small few room node own h g =
     absurd (omega (arith, own-good inputs wires s zero t at c own .levels))
-whole-checks inputs wires s (suc l) t at c {n} {k} {bits} {joint} {answer} {first} {next} {after} small node own h g = record {
+whole-checks inputs wires s ahead (suc l) t at c {n} {k} small few room node own h g = record {
   answers = g .answers ∙ by-operands inputs wires s t at c (suc l) (omega arith) own;
   cells = λ e m j r.
       let v = view e m j r in
       let own-forms = ownForms kind (typeOfByte t) (bodyAt s at) in
-      let cells : k ≡ c + length own-forms =
+      let cells : k - ahead ≡ c - ahead + length own-forms =
       omega (arith, own-forms-length (typeOfByte t) (bodyAt s at) kind (v .0 .good .kind), v .0 .good .count, v .2) in
       rw (ap cellForms (v .0 .tree) ∙ forms-of-kind kind (v .0 .good .kind) (typeOfByte t) (bodyAt s at) (v .0 .operands) (v .4))
       (entered-append own-forms (formsOf (v .0 .operands)) cells
-      (own-entered inputs wires s (suc l) t at c small (v .0 .good) h) (g .cells (v .0 .operands) m j (v .3)));
+      (own-entered inputs wires s (suc l) t at c small few (v .0 .good) h) (g .cells (v .0 .operands) m j (v .3)));
   reads = λ e m j r.
       let v = view e m j r in
       let named : wiresNamed kind (bodyAt s at) ≡ [] = rw (ne-eqb kind 2 (λ q. omega arith)) in
@@ -286,23 +312,23 @@ unfolding readEach
 none-asked read [] at c z = refl
 none-asked read (t ∷ ts) at c z = absurd (omega arith)
 
--- a leaf ends with its own bytes
-pub leaf-checks : (inputs wires s : List ℕ) (level t at c : ℕ) {answer : Read} {bits joint : ℕ} {cells : List ℕ} → 1 ≤ level
-    → at < length s → getD s at 0 < 4 → LeafChecks inputs wires s t at c answer bits joint
-    → Checks s cellForms wiresRead (readExpression inputs wires s level t at c) c answer cells cells bits joint
-leaf-checks inputs wires s zero t at c levels byte leaf h = absurd (omega arith)
-leaf-checks inputs wires s (suc l) t at c {answer} {bits} {joint} {cells} levels byte leaf h = by answer refl
+-- an expression without operands and without a cell ends with its own bytes
+pub bare-checks : (inputs wires s : List ℕ) (level t at c : ℕ) {answer : Read} {d bits joint : ℕ} {cells : List ℕ} → 1 ≤ level
+    → at < length s → Bare (getD s at 0) → LeafChecks inputs wires s t at c answer bits joint
+    → Checks s cellForms wiresRead (readExpression inputs wires s level t at c) d answer cells cells bits joint
+bare-checks inputs wires s zero t at c levels byte bare h = absurd (omega arith)
+bare-checks inputs wires s (suc l) t at c {answer} {d} {bits} {joint} {cells} levels byte bare h = by answer refl
   where
     kind : ℕ
     kind = getD s at 0
 
     own : ownOf inputs wires s (suc l) t at c ≡ answer
-    own = own-passed inputs wires s t at c (suc l) byte (omega arith) (omega arith) ∙ sym (h .answers)
+    own = own-passed inputs wires s t at c (suc l) byte (bare .known) (omega arith) ∙ sym (h .answers)
 
     none : length (operandsOf kind t) ≡ 0
-    none = operands-counted t kind (omega arith) ∙ leaf-operands kind leaf
+    none = operands-counted t kind (bare .known) ∙ bare .operands
 
-    by : (r : Read) → answer ≡ r → Checks s cellForms wiresRead (readExpression inputs wires s (suc l) t at c) c
+    by : (r : Read) → answer ≡ r → Checks s cellForms wiresRead (readExpression inputs wires s (suc l) t at c) d
         answer cells cells bits joint
     by (Refused why place) e = rw e (refused-checks (own-refused inputs wires s t at c (suc l) (own ∙ e)))
     by (Got n k) e = record {
@@ -313,13 +339,20 @@ leaf-checks inputs wires s (suc l) t at c {answer} {bits} {joint} {cells} levels
           let sized = run-extent inputs wires s l (operandsOf kind t) (v .first) (v .before) (v .each) .sized in
           rw (ap cellForms (v .tree)
           ∙ forms-of-kind kind (v .good .kind) (typeOfByte t) (bodyAt s at) (v .operands) (sized ∙ operands-counted t kind (v .good .kind))
-          ∙ leaf-forms kind leaf (typeOfByte t) (bodyAt s at) (v .operands) (sized ∙ none))
+          ∙ bare-forms bare (typeOfByte t) (bodyAt s at) (v .operands) (sized ∙ none))
           entered-none;
       reads = λ x m j r.
           let v = expression-view inputs wires s l t at c r in
           let sized = run-extent inputs wires s l (operandsOf kind t) (v .first) (v .before) (v .each) .sized in
           rw (ap wiresRead (v .tree)
           ∙ reads-of-kind kind (v .good .kind) (typeOfByte t) (bodyAt s at) (v .operands) (sized ∙ operands-counted t kind (v .good .kind))
-          ∙ leaf-reads kind leaf (bodyAt s at) (v .operands) (sized ∙ none))
+          ∙ bare-reads bare (bodyAt s at) (v .operands) (sized ∙ none))
           (h .reads n k e);
     }
+
+-- what gives the cell of a kept wire reads no wire
+pub last-checks : (inputs wires s : List ℕ) (level t at c : ℕ) {answer : Read} {d bits : ℕ} {cells : List ℕ} → 1 ≤ level → at < length s
+    → getD s at 0 ≡ 18 → answer ≡ bodyFrom inputs wires s t at c
+    → Checks s cellForms wiresRead (readExpression inputs wires s level t at c) d answer cells cells bits bits
+last-checks inputs wires s level t at c levels byte last e =
+    bare-checks inputs wires s level t at c levels byte (rw last last-bare) record { answers = e; reads = λ n k got. rw last joins-none }

@@ -11,9 +11,11 @@ use lib.Seq.{drop-cons}
 use Rattle.sheet.specs.Laws.Lists.{never}
 use Rattle.sheet.specs.Laws.Readings.{not-good}
 use borrow.Author.Tests.{lt-leb, le-leb, eq-eqb, ne-eqb}
+use Rattle.sheet.specs.Data.{plainByte}
 use Rattle.sheet.specs.Kinds.{kindCount, operandsOf, ownTypeOf, typed}
 use Rattle.sheet.specs.Expressions.{Expression}
 use Rattle.sheet.specs.Readings.{Reading, refused, got, erased, andThen, readEach, ownOf, bodyFrom, readExpression}
+use Rattle.sheet.specs.Sheets.{wireTree, readWire}
 use Rattle.sheet.specs.declared.Refusal.{Refusal}
 use Rattle.sheet.specs.declared.Refusal.the-variants.{Cut, Kind, Level, TypeAsked}
 use Rattle.sheet.specs.declared.Read.the-variants.{Refused, Got}
@@ -23,6 +25,11 @@ use Rattle.sheet_own.specs.Own.{thenType}
 erased-map : {A B : Type 0} (x : Reading A) (f : A → B) → erased (andThen x (λ a n k. got (f a) n k)) ≡ erased x
 erased-map (refused why place) f = refl
 erased-map (got a n k) f = refl
+
+-- a wire reads as its expression does
+pub wire-erased : (inputs wires s : List ℕ) (b at c : ℕ)
+    → erased (readExpression inputs wires s 16 (plainByte b) at c) ≡ erased (readWire inputs wires s b at c)
+wire-erased inputs wires s b at c = sym (erased-map (readExpression inputs wires s 16 (plainByte b) at c) (wireTree b))
 
 module _ (read : ℕ → ℕ → ℕ → Reading Expression) (types : List ℕ) (i at c : ℕ) (more : i < length types) where
   abbrev rest : Reading Expression → Reading (List Expression)

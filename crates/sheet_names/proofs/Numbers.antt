@@ -1,41 +1,64 @@
--- The set of the names whose type byte is 1, as it grows name by name.
+-- The set of the names whose type byte passes a test, as it grows name by name, and the count of the kept ones.
 use Prim.Native.Nat.{ℕ, _+_, _≤_, _<_}
-use mathlib.Core.Path.{_≡_, refl, sym, _∙_}
-use mathlib.Core.Bool.{Bool, false, _||_, or-true, or-false}
+use mathlib.Core.Path.{_≡_, refl, sym, ap, _∙_}
+use mathlib.Core.Bool.{Bool, true, false, _||_, cond, or-true, or-false}
 use mathlib.Core.List.{List}
+use native.Mathlib.Numerals.{add-one}
 use native.Mathlib.Omega.{arith}
-use lib.Dec.{eqb}
-use lib.ListN.{getD}
+use lib.Dec.{eqb, ltb}
+use lib.ListN.{length, getD, drop, List·getD-eq-default}
+use lib.Seq.{drop-cons}
 use borrow.Author.Count.{below-none, below-more}
-use borrow.Author.Tests.{eq-eqb, ne-eqb}
+use borrow.Author.Tests.{eq-eqb, ne-eqb, ltb-true, ltb-false}
 use Rattle.wires.specs.Sets.{member}
+use Rattle.sheet.specs.Data.{isKept}
+use Rattle.sheet.specs.Sheets.{ownCells, keptCount}
 
-abbrev isNumber : List ℕ → ℕ → Bool
-isNumber types i = eqb (getD types i 0) 1
+-- the kept wires from wire n on are that one, where it is kept, and those behind it
+pub kept-from : (types : List ℕ) (n : ℕ) → n < length types
+    → keptCount (drop n types) ≡ ownCells (getD types n 0) + keptCount (drop (n + 1) types)
+unfolding keptCount
+kept-from types n more = rw (add-one, drop-cons types n 0 more)
 
--- of the first n names the set has those that are numbers, and it has no other
-pub record NumbersBefore (types : List ℕ) (n bits : ℕ) : Type 0 where
-  pub below : (i : ℕ) → i < n → member bits i ≡ isNumber types i
-  pub beyond : (i : ℕ) → n ≤ i → member bits i ≡ false
+-- and where those before it are counted, it is counted too
+pub kept-counted : (types : List ℕ) (n count : ℕ) {all : ℕ} {kept : Bool} → n < length types
+    → isKept (getD types n 0) ≡ kept → count + keptCount (drop n types) ≡ all → count + cond kept 1 0 + keptCount (drop (n + 1) types) ≡ all
+kept-counted types n count more is counted =
+    let here = kept-from types n more in
+    rw (← is) (omega arith)
 
-pub none-before : (types : List ℕ) (bits : ℕ) → ((i : ℕ) → member bits i ≡ false) → NumbersBefore types 0 bits
-none-before types bits none = record { below = below-none (λ i. member bits i ≡ isNumber types i); beyond = λ i l. none i }
+module _ (test : ℕ → Bool) (types : List ℕ) where
+  -- of the first n names the set has those that pass, and it has no other
+  pub record PassBefore (n bits : ℕ) : Type 0 where
+    pub below : (i : ℕ) → i < n → member bits i ≡ test (getD types i 0)
+    pub beyond : (i : ℕ) → n ≤ i → member bits i ≡ false
 
-module _ (types : List ℕ) (n bits : ℕ) (before : NumbersBefore types n bits) where
-  pub number-added : (more : ℕ) → ((i : ℕ) → member more i ≡ (member bits i || eqb i n)) → getD types n 0 ≡ 1
-      → NumbersBefore types (n + 1) more
-  number-added more adds number =
+  pub none-before : {bits : ℕ} → ((i : ℕ) → member bits i ≡ false) → PassBefore 0 bits
+  none-before {bits} none = record { below = below-none (λ i. member bits i ≡ test (getD types i 0)); beyond = λ i l. none i }
+
+  pub name-added : {n bits more : ℕ} → PassBefore n bits → ((i : ℕ) → member more i ≡ (member bits i || eqb i n))
+      → test (getD types n 0) ≡ true → PassBefore (n + 1) more
+  name-added {n} {bits} {more} before adds passes =
       record {
-        below = below-more (λ i. member more i ≡ isNumber types i) n
+        below = below-more (λ i. member more i ≡ test (getD types i 0)) n
             (λ i l. adds i ∙ rw (ne-eqb i n (λ (e : i ≡ n). omega arith), or-false) (before .below i l))
-            (adds n ∙ rw (eq-eqb n n refl, or-true) (sym (eq-eqb (getD types n 0) 1 number)));
+            (adds n ∙ rw (eq-eqb n n refl, or-true) (sym passes));
         beyond = λ i l. adds i ∙ rw (before .beyond i (omega arith), ne-eqb i n (λ (e : i ≡ n). omega arith));
       }
 
-  pub other-passed : (getD types n 0 ≡ 1 → ⊥) → NumbersBefore types (n + 1) bits
-  other-passed other =
+  pub name-passed : {n bits : ℕ} → PassBefore n bits → test (getD types n 0) ≡ false → PassBefore (n + 1) bits
+  name-passed {n} {bits} before fails =
       record {
-        below = below-more (λ i. member bits i ≡ isNumber types i) n (before .below)
-            (before .beyond n (omega arith) ∙ sym (ne-eqb (getD types n 0) 1 other));
+        below = below-more (λ i. member bits i ≡ test (getD types i 0)) n (before .below) (before .beyond n (omega arith) ∙ sym fails);
         beyond = λ i l. before .beyond i (omega arith);
       }
+
+  -- a name that is none has type byte 0
+  pub all-before : {n bits : ℕ} → test 0 ≡ false → length types ≤ n → PassBefore n bits → (i : ℕ) → member bits i ≡ test (getD types i 0)
+  all-before {n} {bits} fails over before i = go (ltb i n) refl
+    where
+      go : (b : Bool) → ltb i n ≡ b → member bits i ≡ test (getD types i 0)
+      go true e = before .below i (ltb-true i n e)
+      go false e =
+          let l = ltb-false i n e in
+          before .beyond i l ∙ sym (ap test (List·getD-eq-default types 0 {n = i} (omega arith)) ∙ fails)

@@ -7,7 +7,7 @@ use native.Mathlib.Omega.{arith}
 use lib.Dec.{eqb, leb, ltb}
 use lib.ListN.{length, getD}
 use borrow.Author.Tests.{le-ltb, lt-ltb, lt-leb, le-leb, leb-false, eqb-true, eq-eqb, ne-eqb}
-use Rattle.sheet.specs.Kinds.{kindCount, bodyOf, cellsOf, ownTypeOf, typed, limitOf, foundOf}
+use Rattle.sheet.specs.Kinds.{bodyOf, cellsOf, ownTypeOf, typed, limitOf, namesUnkept, foundOf}
 use Rattle.sheet.specs.Reads.{wiresNamed}
 use Rattle.sheet.specs.Readings.{namedAt, bodyAt, namesOf, bodyFrom}
 use Rattle.sheet.specs.Laws.Readings.{not-good, kinds-between, _▸_, end}
@@ -22,13 +22,22 @@ use Rattle.sheet_own.specs.Own.{Joins, LeafChecks, thenType}
 pub leaf-cells : (k : ℕ) → k < 4 → cellsOf k ≡ 0
 leaf-cells k l = kinds-between (λ k. cellsOf k ≡ 0) {low = 0} (refl ▸ refl ▸ refl ▸ refl ▸ end) k (omega arith) l
 
+-- and may name any wire
+leaf-unkept : (wires : List ℕ) (n k : ℕ) → k < 4 → namesUnkept wires k n ≡ false
+leaf-unkept wires n k l =
+    kinds-between (λ k. namesUnkept wires k n ≡ false) {low = 0} (refl ▸ refl ▸ refl ▸ refl ▸ end) k (omega arith) l
+
 -- an expression with operands names nothing: it has the type of the table, and a body of one byte stays below the two Booleans
-pub node-type : (inputs wires : List ℕ) (t n k : ℕ) → 4 ≤ k → k < kindCount → foundOf inputs wires t k n ≡ typed t (ownTypeOf k)
+pub node-type : (inputs wires : List ℕ) (t n k : ℕ) → 4 ≤ k → k < 18 → foundOf inputs wires t k n ≡ typed t (ownTypeOf k)
 node-type inputs wires t n = kinds-between (λ k. foundOf inputs wires t k n ≡ typed t (ownTypeOf k))
     (refl ▸ refl ▸ refl ▸ refl ▸ refl ▸ refl ▸ refl ▸ refl ▸ refl ▸ refl ▸ refl ▸ refl ▸ refl ▸ refl ▸ end)
 
-node-limit : (inputs wires : List ℕ) (k : ℕ) → 4 ≤ k → k < kindCount → limitOf inputs wires k ≡ 2
+node-limit : (inputs wires : List ℕ) (k : ℕ) → 4 ≤ k → k < 18 → limitOf inputs wires k ≡ 2
 node-limit inputs wires = kinds-between (λ k. limitOf inputs wires k ≡ 2)
+    (refl ▸ refl ▸ refl ▸ refl ▸ refl ▸ refl ▸ refl ▸ refl ▸ refl ▸ refl ▸ refl ▸ refl ▸ refl ▸ refl ▸ end)
+
+node-unkept : (wires : List ℕ) (n k : ℕ) → 4 ≤ k → k < 18 → namesUnkept wires k n ≡ false
+node-unkept wires n = kinds-between (λ k. namesUnkept wires k n ≡ false)
     (refl ▸ refl ▸ refl ▸ refl ▸ refl ▸ refl ▸ refl ▸ refl ▸ refl ▸ refl ▸ refl ▸ refl ▸ refl ▸ refl ▸ end)
 
 plain-body : (k : ℕ) → 4 ≤ k → k < 15 → bodyOf k ≡ 0
@@ -39,17 +48,18 @@ pub plain-cells : (k : ℕ) → 4 ≤ k → k < 15 → cellsOf k ≡ 0
 plain-cells = kinds-between (λ k. cellsOf k ≡ 0)
     (refl ▸ refl ▸ refl ▸ refl ▸ refl ▸ refl ▸ refl ▸ refl ▸ refl ▸ refl ▸ refl ▸ end)
 
-pub owner-cells : (k : ℕ) → 15 ≤ k → k < kindCount → cellsOf k ≡ 1
+pub owner-cells : (k : ℕ) → 15 ≤ k → k < 18 → cellsOf k ≡ 1
 owner-cells = kinds-between (λ k. cellsOf k ≡ 1) (refl ▸ refl ▸ refl ▸ end)
 
 -- 7 and 9 of an expression with operands
-names-node : (inputs wires s : List ℕ) (t at n k : ℕ) → 4 ≤ getD s at 0 → getD s at 0 < kindCount → namedAt s at < 2
+names-node : (inputs wires s : List ℕ) (t at n k : ℕ) → 4 ≤ getD s at 0 → getD s at 0 < 18 → namedAt s at < 2
     → namesOf inputs wires s t at n k ≡ thenType (getD s at 0) t at (Got n k)
 unfolding namesOf
 names-node inputs wires s t at n k node kind fine =
     rw (
       node-limit inputs wires (getD s at 0) node kind,
       lt-leb 2 (namedAt s at) fine,
+      node-unkept wires (namedAt s at) (getD s at 0) node kind,
       node-type inputs wires t (namedAt s at) (getD s at 0) node kind,
     )
 
@@ -68,7 +78,7 @@ plain-own inputs wires s t at c byte node plain room =
     (names-node inputs wires s t at (at + 1) c node (omega arith) fine)
 
 -- the own bytes of an owner, test by test
-module _ (inputs wires s : List ℕ) (t at c : ℕ) (byte : at < length s) (owner : 15 ≤ getD s at 0) (known : getD s at 0 < kindCount) where
+module _ (inputs wires s : List ℕ) (t at c : ℕ) (byte : at < length s) (owner : 15 ≤ getD s at 0) (known : getD s at 0 < 18) where
   abbrev kind : ℕ
   kind = getD s at 0
 
@@ -131,6 +141,9 @@ module _ (inputs wires names s : List ℕ) (t at c : ℕ) (naming : Naming input
     limited : leb (limitOf inputs wires leaf-kind) (namedAt s at) ≡ false
     limited = sym (naming .limits leaf-kind (getD s (at + 1) 0) leaf small) ∙ lt-leb (limitIn names leaf-kind) (getD s (at + 1) 0) below
 
+    unkept : namesUnkept wires leaf-kind (namedAt s at) ≡ false
+    unkept = leaf-unkept wires (namedAt s at) leaf-kind leaf
+
     typed-as : eqb (typeIn names leaf-kind (getD s (at + 1) 0)) t ≡ eqb (foundOf inputs wires t leaf-kind (namedAt s at)) t
     typed-as =
         naming .types leaf-kind (getD s (at + 1) 0) t leaf small (leb-false (limitOf inputs wires leaf-kind) (namedAt s at) limited) asked
@@ -138,12 +151,12 @@ module _ (inputs wires names s : List ℕ) (t at c : ℕ) (naming : Naming input
     pub leaf-other : (typeIn names leaf-kind (getD s (at + 1) 0) ≡ t → ⊥) → Refused TypeAsked at ≡ bodyFrom inputs wires s t at c
     unfolding namesOf
     leaf-other other =
-        rw (leaf-names whole, limited, ← typed-as, ne-eqb (typeIn names leaf-kind (getD s (at + 1) 0)) t other)
+        rw (leaf-names whole, limited, unkept, ← typed-as, ne-eqb (typeIn names leaf-kind (getD s (at + 1) 0)) t other)
 
     pub leaf-good : typeIn names leaf-kind (getD s (at + 1) 0) ≡ t → Got (at + 1 + bodyOf leaf-kind) c ≡ bodyFrom inputs wires s t at c
     unfolding namesOf
     leaf-good same =
-        rw (leaf-names whole, limited, ← typed-as, eq-eqb (typeIn names leaf-kind (getD s (at + 1) 0)) t same)
+        rw (leaf-names whole, limited, unkept, ← typed-as, eq-eqb (typeIn names leaf-kind (getD s (at + 1) 0)) t same)
 
     -- a wire that is named is one of at most 64
     pub wire-below : leaf-kind ≡ 2 → getD s (at + 1) 0 < 64

@@ -15,7 +15,7 @@ use Rattle.sheet.specs.declared.Refusal.the-variants.{TypeAsked}
 use Rattle.sheet.specs.declared.Read.{Read}
 use Rattle.sheet.specs.declared.Read.the-variants.{Refused, Got}
 
--- eight numbers that the names of some sheet's leaves are looked up in
+-- numbers that the names of some sheet's expressions are looked up in
 pub record Lookup (names : List ℕ) : Type 0 where
   pub inputs : List ℕ
   pub wires : List ℕ

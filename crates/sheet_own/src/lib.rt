@@ -10,7 +10,6 @@ ghost use mathlib.Core.List.{List};
 ghost use Prim.Native.Nat.{ℕ, _<_, _≤_};
 ghost use lib.ListN.{length, getD};
 ghost use lib.Seq.{sets};
-ghost use Rattle.sheet.specs.Kinds.{kindCount};
 ghost use Rattle.sheet.specs.Reads.{wiresNamed};
 ghost use Rattle.sheet.specs.Readings.{bodyFrom};
 ghost use Rattle.sheet.specs.declared.Read.the-variants.{Refused};
@@ -38,7 +37,7 @@ fn with_named(kind: u8, named: u8, found: Wires) -> Wires
 // 2, 7 and 9 of the expression at `at`, which has no operands, kinds 0 to 3; a wire that it names is read.
 pub fn check_leaf(
     sheet: &[u8],
-    names: &[u64; 8],
+    names: &[u64; 10],
     asked: u8,
     at: usize,
     count: usize,
@@ -69,9 +68,30 @@ pub fn check_leaf(
     }
 }
 
+// 2, 7 and 9 of the expression at `at`, which gives the cell of a kept wire, kind 18; no wire is read.
+pub fn check_last(sheet: &[u8], names: &[u64; 10], asked: u8, at: usize, count: usize) -> Read
+    requires { ⌜ Lookup (now names) × (at < length (now sheet)) × (getD (now sheet) at 0 ≡ 18) × (asked < 2) × (count ≤ 64) ⌝ }
+    ensures { λ r. ⌜ ((l : Lookup (now (names .entry))) → r ≡ bodyFrom (l .inputs) (l .wires) (now (sheet .entry)) asked at count) ⌝ }
+{
+    if sheet.len() - at <= 1 {
+        return refused(Refusal::Cut, sheet.len());
+    }
+    let named = sheet[at + 1];
+    if !sheet_names::is_kept(names, named) {
+        return refused(Refusal::Body, at);
+    }
+    if sheet_names::type_of(names, 2, named) != asked {
+        return refused(Refusal::TypeAsked, at);
+    }
+    Read::Got {
+        next: at + 2,
+        count,
+    }
+}
+
 // 10, 2 and 7 of the expression at `at`, which owns a cell, kinds 15 to 17, behind `count` others; 9 comes behind them.
 fn check_cell(sheet: &[u8], at: usize, count: usize) -> Read
-    requires { ⌜ (at < length (now sheet)) × (15 ≤ getD (now sheet) at 0) × (getD (now sheet) at 0 < kindCount) ⌝ }
+    requires { ⌜ (at < length (now sheet)) × (15 ≤ getD (now sheet) at 0) × (getD (now sheet) at 0 < 18) ⌝ }
     ensures { λ r. ⌜ ((inputs wires : List ℕ) (asked : ℕ)
         → thenType (getD (now (sheet .entry)) at 0) asked at r ≡ bodyFrom inputs wires (now (sheet .entry)) asked at count) ⌝ }
 {
@@ -91,9 +111,9 @@ fn check_cell(sheet: &[u8], at: usize, count: usize) -> Read
     }
 }
 
-// What the own bytes of the expression at `at`, which has operands, are refused for; 9 comes behind it.
+// What the own bytes of the expression at `at`, which has operands, kinds 4 to 17, are refused for; 9 comes behind it.
 pub fn check_own(sheet: &[u8], at: usize, count: usize) -> Read
-    requires { ⌜ (at < length (now sheet)) × (4 ≤ getD (now sheet) at 0) × (getD (now sheet) at 0 < kindCount) × (count ≤ 64) ⌝ }
+    requires { ⌜ (at < length (now sheet)) × (4 ≤ getD (now sheet) at 0) × (getD (now sheet) at 0 < 18) × (count ≤ 64) ⌝ }
     requires { ⌜ length (now sheet) ≤ 4096 ⌝ }
     ensures { λ r. ⌜ ((inputs wires : List ℕ) (asked : ℕ)
         → thenType (getD (now (sheet .entry)) at 0) asked at r ≡ bodyFrom inputs wires (now (sheet .entry)) asked at count) ⌝ }
@@ -107,24 +127,24 @@ pub fn check_own(sheet: &[u8], at: usize, count: usize) -> Read
     check_cell(sheet, at, count)
 }
 
-// Notes the cell that an expression of this kind at `at` owns, behind `count` others: an fby has no body.
-fn note_cell(kind: u8, asked: u8, at: usize, count: usize, cells: &mut [u16; 64])
-    requires { ⌜ (15 ≤ kind) × (kind < kindCount) × (asked < 2) × (at < 4096) × (count < 64) ⌝ }
-    ensures { λ _. ⌜ now (cells .exit) ≡ sets (now (cells .entry)) count (ownEntries kind asked at) ⌝ }
+// Notes the cell that an expression of this kind at `at` owns, which has this number: an fby has no body.
+fn note_cell(kind: u8, asked: u8, at: usize, number: usize, cells: &mut [u16; 64])
+    requires { ⌜ (15 ≤ kind) × (kind < 18) × (asked < 2) × (at < 4096) × (number < 64) ⌝ }
+    ensures { λ _. ⌜ now (cells .exit) ≡ sets (now (cells .entry)) number (ownEntries kind asked at) ⌝ }
 {
     if kinds::body(kind) == 0 {
-        cells[count] = (4 * at + numbers::length_of(asked) + 2) as u16;
+        cells[number] = (4 * at + numbers::length_of(asked) + 2) as u16;
     } else {
-        cells[count] = (4 * at + numbers::length_of(asked)) as u16;
+        cells[number] = (4 * at + numbers::length_of(asked)) as u16;
     }
 }
 
 // Notes the cell that an expression of this kind at `at` owns, if it owns one.
-pub fn note_own(kind: u8, asked: u8, at: usize, count: usize, cells: &mut [u16; 64])
-    requires { ⌜ (4 ≤ kind) × (kind < kindCount) × (asked < 2) × (at < 4096) × (15 ≤ kind → count < 64) ⌝ }
-    ensures { λ _. ⌜ now (cells .exit) ≡ sets (now (cells .entry)) count (ownEntries kind asked at) ⌝ }
+pub fn note_own(kind: u8, asked: u8, at: usize, number: usize, cells: &mut [u16; 64])
+    requires { ⌜ (4 ≤ kind) × (kind < 18) × (asked < 2) × (at < 4096) × (15 ≤ kind → number < 64) ⌝ }
+    ensures { λ _. ⌜ now (cells .exit) ≡ sets (now (cells .entry)) number (ownEntries kind asked at) ⌝ }
 {
     if 15 <= kind {
-        note_cell(kind, asked, at, count, cells);
+        note_cell(kind, asked, at, number, cells);
     }
 }

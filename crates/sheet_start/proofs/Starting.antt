@@ -9,12 +9,11 @@ use lib.Seq.{sets, drop-cons, getD-take}
 use Rattle.numbers.specs.Laws.{sets-append}
 use Rattle.sheet.specs.Data.{boolean}
 use Rattle.sheet.specs.Expressions.{CellForm, fbyCell}
-use Rattle.sheet.specs.Readings.{bodyAt}
-use Rattle.sheet.specs.Memory.{cellBytes, memoryBytes, startMemory, ownCell}
+use Rattle.sheet.specs.Memory.{cellBytes, memoryBytes, startMemory}
 use Rattle.sheet.specs.Typing.{Pairwise, done, _then_}
 use Rattle.sheet.specs.Laws.Memory.{cell-length, memory-length}
 use Rattle.sheet.specs.declared.Cell.{Cell}
-use Rattle.sheet_expressions.specs.Map.{ownerIn, CellNoted}
+use Rattle.sheet_expressions.specs.Map.{startIn, CellNoted}
 use Rattle.sheet_cells.proofs.Starting.{startBytes}
 use Rattle.sheet_start.specs.Owners.{Noted}
 
@@ -42,8 +41,7 @@ module _ {s entries : List ℕ} {count : ℕ} (p : Noted s entries count) where
   Makes k memory = sets memory (5 * k) (startBytes (drop k (p .forms))) ≡ startBytes (p .forms)
 
   pub next-put : (k : ℕ) (memory after : List ℕ) (cell : Cell) → k < count
-      → cell ≡ ownCell (getD s (ownerIn (getD entries k 0)) 0) (bodyAt s (ownerIn (getD entries k 0)))
-      → after ≡ sets memory (5 * k) (cellBytes cell) → Makes k memory → Makes (k + 1) after
+      → cell ≡ startIn s (getD entries k 0) → after ≡ sets memory (5 * k) (cellBytes cell) → Makes k memory → Makes (k + 1) after
   unfolding memoryBytes startMemory
   next-put k memory after cell l own put makes =
       let here : k < length (p .forms) = omega (arith, p .counted) in

@@ -1,14 +1,18 @@
 // The start of a memory: each cell that the check of a sheet noted is put as it is at the start.
-// Rests on `check_map`, on `sheet_cells` for the cell that an expression owns, and on `memory` for its bytes.
+// Rests on `check_map`, on `sheet_cells` for the cell that an expression owns, on `data` for a kept wire's, and on `memory` for bytes.
+use sheet::Cell;
 use sheet::Checked;
 use sheet::Refusal;
 use sheet::Started;
+use sheet::data;
 use sheet::memory;
 ghost use mathlib.Core.Path.{_≡_};
 ghost use mathlib.Core.Bool.{cond};
 ghost use Prim.Native.Nat.{_*_};
 ghost use lib.ListN.{length};
 ghost use Rattle.sheet.specs.Memory.{memoryBytes, startMemory, startCall};
+ghost use Rattle.sheet.specs.Readings.{Whole};
+ghost use Rattle.sheet_expressions.specs.Map.{ownerIn, noOwner, startIn};
 ghost use Rattle.sheet.specs.declared.Refusal.the-variants.{MemoryLength};
 ghost use Rattle.sheet.specs.declared.Started.the-variants.{Refused, Done};
 ghost use Rattle.sheet_start.specs.Owners.{Noted, Starts};
@@ -46,7 +50,7 @@ fn start_cells(sheet: &[u8], cells: &[u16; 64], count: usize, memory: &mut [u8])
     started(sized)
 }
 
-// Puts each of the cells, whose owners are noted, as it is at the start.
+// Puts each of the cells, which are noted, as it is at the start.
 fn fill(sheet: &[u8], cells: &[u16; 64], count: usize, memory: &mut [u8])
     requires { ⌜ Noted (now sheet) (now cells) count ⌝ }
     requires { ⌜ length (now memory) ≡ 5 * count ⌝ }
@@ -55,10 +59,21 @@ fn fill(sheet: &[u8], cells: &[u16; 64], count: usize, memory: &mut [u8])
 {
     let mut k = 0;
     while k < count {
-        let owner = (cells[k] / 4) as usize;
-        memory::put_cell(memory, k, sheet_cells::own_cell(sheet, owner));
+        memory::put_cell(memory, k, start_cell(sheet, cells[k]));
         k = k + 1;
     }
+}
+
+// The cell of an entry, as it is at the start: one that has no owner is a kept wire's, and false or 0.
+fn start_cell(sheet: &[u8], entry: u16) -> Cell
+    requires { ⌜ ((ownerIn entry ≡ noOwner → ⊥) → Whole (now sheet) (ownerIn entry)) ⌝ }
+    ensures { λ r. ⌜ r ≡ startIn (now (sheet .entry)) entry ⌝ }
+{
+    let owner = (entry / 4) as usize;
+    if owner == 4096 {
+        return Cell::Started(data::datum_of((entry % 4) as u8, 0));
+    }
+    sheet_cells::own_cell(sheet, owner)
 }
 
 // The answer where the sheet passes the check: done where the memory was filled, else 12.

@@ -9,7 +9,7 @@ use lib.Dec.{ltb, eqb}
 use lib.ListN.{getD, take}
 use lib.Seq.{sets}
 use borrow.Author.Tests.{ltb-true, ltb-false, eqb-true, eqb-false, ne-eqb}
-use Rattle.sheet.specs.Data.{ValueType, typeOfByte, datumOf, wordOf}
+use Rattle.sheet.specs.Data.{ValueType, typeOfByte, datumOf}
 use Rattle.sheet.specs.Expressions.{Unary, Binary, Choice, unary, binary, choose, reset, pre, fby, present}
 use Rattle.sheet.specs.Kinds.{bodyOf, countOf, operandsOf}
 use Rattle.sheet.specs.Memory.{cellBytes, cellWordAt, memoryBytes}
@@ -22,18 +22,18 @@ use Rattle.kernel.specs.Values.{isTrue, datumIn}
 use Rattle.operations.specs.Words.{unaryWord, binaryWord}
 use Rattle.kernel.specs.Operations.{unaryOf, binaryOf}
 use Rattle.kernel.specs.Instant.{runs, stored}
-use Rattle.leaves.specs.Leaves.{knownBy, leafWord}
+use Rattle.leaves.specs.Leaves.{knownBy, leafWord, lastWord}
 use Rattle.leaves.specs.Words.{isSeen, preWord}
 use Rattle.expression.specs.Places.{Placement, Gives}
 use Rattle.expression.proofs.Views.{Operand, placed, operand-counted, One, Two, Three}
 use Rattle.expression.proofs.Views.{unary-view, binary-view, conditional-view, present-view, reset-view, fby-view, pre-view}
-use Rattle.expression.proofs.Views.{constant-view, wire-view, input-view}
+use Rattle.expression.proofs.Views.{constant-view, wire-view, input-view, last-view}
 use Rattle.expression.proofs.Values.{operandValue, Ended, by-value, by-walk}
 use Rattle.expression.proofs.Giving.{unary-gives, binary-gives, conditional-gives, present-gives-first, present-gives-second, reset-gives}
-use Rattle.expression.proofs.Giving.{fby-gives-left, fby-gives-cell, pre-gives, leaf-gives}
+use Rattle.expression.proofs.Giving.{fby-gives-left, fby-gives-cell, pre-gives, leaf-gives, last-gives}
 use Rattle.storing.specs.Advances.{Ready, Advances}
 use Rattle.storing.specs.declared.advance.Advanced.{Advanced}
-use Rattle.storing.proofs.Steps.{Steps, Stays, operandStored, operandKept, put-first, one-ready, one-step, two-ready, two-step, two-step-2}
+use Rattle.storing.proofs.Steps.{Steps, Stays, operandStored, operandResting, put-first, one-ready, one-step, two-ready, two-step, two-step-2}
 use Rattle.storing.proofs.Steps.{three-step, three-step-2, three-step-3, three-rest-2, three-rest-3, rest-step-3}
 
 module _ {sheet memory words : List ℕ} {level asked at cell : ℕ}
@@ -60,8 +60,8 @@ module _ {sheet memory words : List ℕ} {level asked at cell : ℕ}
   choose-stored : {o : Choice} {t u s a : ℕ} (w : Three here t u s a cell (choose o))
       → let holds = isTrue (operandValue here fresh (w .first)) in
       wholeStored ≡ operandStored p fresh (w .first)
-      ++ (cond (runs o holds true) (operandStored p fresh (w .second)) (operandKept p fresh (w .second))
-      ++ cond (runs o holds false) (operandStored p fresh (w .third)) (operandKept p fresh (w .third)))
+      ++ (cond (runs o holds true) (operandStored p fresh (w .second)) (operandResting p fresh (w .second))
+      ++ cond (runs o holds false) (operandStored p fresh (w .third)) (operandResting p fresh (w .third)))
   unfolding stored
   choose-stored w =
       ap (λ e. stored (here .now) fresh e cell) (w .ends .tree) ∙ rw (operand-counted here (w .second), operand-counted here (w .first))
@@ -122,6 +122,13 @@ module _ {sheet memory words : List ℕ} {level asked at cell : ℕ}
       → r ≡ record { next = at + 1 + bodyOf kind; word = leafWord sheet words at; cell = cell } → Advances p fresh r memory
   unfolding memoryBytes
   leaf-advances below e = rw e (finish (leaf-gives here fresh below leaf-known) refl (leaf-stored below))
+
+  -- neither has kind 18
+  pub last-advances : kind ≡ 18 → {r : Advanced} → r ≡ record { next = at + 2; word = lastWord sheet words at; cell = cell }
+      → Advances p fresh r memory
+  unfolding stored memoryBytes
+  last-advances of e =
+      rw e (finish (last-gives here fresh of) refl (ap (λ x. stored (here .now) fresh x cell) (last-view here of .leaf .tree)))
 
   module _ (types : List ℕ) (e : take (countOf kind) types ≡ operandsOf kind asked) where
     pub operation-ready : 4 ≤ kind → kind < 12 → Ready sheet memory words (level - 1) (getD types 0 0) (at + 1) cell
@@ -215,11 +222,11 @@ module _ {sheet memory words : List ℕ} {level asked at cell : ℕ}
         by true is = fby-gives-cell here fresh of is e
         by false is = fby-gives-left here fresh of is g e
 
-    pub fby-advances : {seen : Bool} {kept : ℕ} → seen ≡ isSeen fresh memory cell → kept ≡ cellWordAt memory cell
+    pub fby-advances : {seen : Bool} {held : ℕ} → seen ≡ isSeen fresh memory cell → held ≡ cellWordAt memory cell
         → {a b : Advanced} {m m′ m″ : List ℕ} → Steps p memory asked (at + 1) (cell + 1) fresh a m
         → Steps p m asked (a .next) (a .cell) fresh b m′
         → {d : Datum} → d ≡ datumOf (typeOfByte asked) (b .word) → m″ ≡ sets m′ (5 * cell) (cellBytes (Started d))
-        → {r : ℕ} → r ≡ cond seen kept (a .word) → Advances p fresh (record { next = b .next; word = r; cell = b .cell }) m″
+        → {r : ℕ} → r ≡ cond seen held (a .word) → Advances p fresh (record { next = b .next; word = r; cell = b .cell }) m″
     fby-advances sees keeps ha hb {d} is put yields =
         let w = fby-view here of in
         let a = two-step p w ha in

@@ -1,5 +1,5 @@
 -- Cells that stand in a memory still stand after bytes were put before them; to put them where they stand changes nothing; and as many
--- cells are stored or kept as an expression has.
+-- cells are stored, or rest, as an expression has.
 use Prim.Native.Nat.{ℕ, suc, _+_, _*_, _≤_}
 use mathlib.Core.Path.{_≡_, refl, ap, _∙_}
 use mathlib.Core.Bool.{Bool, true, false, _||_, cond}
@@ -8,7 +8,7 @@ use native.Mathlib.Omega.{arith}
 use lib.ListN.{length, getD, take, drop, length-append, length-drop, length-map}
 use lib.Seq.{sets, length-sets, drop-cons, length-take-le}
 use Rattle.numbers.specs.Laws.{sets-past, sets-append}
-use Rattle.sheet.specs.Expressions.{Expression, constant, wire, input, unary, binary, choose, reset, pre, fby}
+use Rattle.sheet.specs.Expressions.{Expression, constant, wire, input, last, unary, binary, choose, reset, pre, fby, kept}
 use Rattle.sheet.specs.Expressions.{CellForm, cellForms, cellCount}
 use Rattle.sheet.specs.Memory.{cellBytes, memoryBytes, startMemory}
 use Rattle.sheet.specs.Laws.Memory.{cell-length}
@@ -16,7 +16,7 @@ use Rattle.sheet.specs.Laws.Readings.{forms-length}
 use Rattle.sheet.specs.declared.Cell.{Cell}
 use Rattle.sheet.specs.declared.Cell.the-variants.{NotStarted}
 use Rattle.kernel.specs.Values.{isTrue}
-use Rattle.kernel.specs.Instant.{Environment, runs, value, kept, stored}
+use Rattle.kernel.specs.Instant.{Environment, runs, value, resting, stored}
 use Rattle.expression.specs.Places.{CellStands, CellsStand, none, more}
 use Rattle.storing.proofs.Splices.{sets-same, drop-past}
 
@@ -62,16 +62,16 @@ memory-append [] ds = refl
 memory-append (c ∷ cs) ds = rw (memory-append cs ds, append-assoc)
 
 module _ (now : Environment) where
-  pub kept-length : (fresh : Bool) (e : Expression) (k : ℕ) → k + cellCount e ≤ length (now .memory)
-      → length (kept now fresh e k) ≡ cellCount e
-  unfolding kept startMemory
-  kept-length true e k l = length-map (cellForms e) (λ f. f .start) ∙ forms-length e
-  kept-length false e k l = length-take-le (cellCount e) (drop k (now .memory)) (omega (arith, length-drop k (now .memory)))
+  pub resting-length : (fresh : Bool) (e : Expression) (k : ℕ) → k + cellCount e ≤ length (now .memory)
+      → length (resting now fresh e k) ≡ cellCount e
+  unfolding resting startMemory
+  resting-length true e k l = length-map (cellForms e) (λ f. f .start) ∙ forms-length e
+  resting-length false e k l = length-take-le (cellCount e) (drop k (now .memory)) (omega (arith, length-drop k (now .memory)))
 
   arm-length : (fresh : Bool) (e : Expression) (k : ℕ) → k + cellCount e ≤ length (now .memory) → (advances : Bool)
-      → length (stored now fresh e k) ≡ cellCount e → length (cond advances (stored now fresh e k) (kept now fresh e k)) ≡ cellCount e
+      → length (stored now fresh e k) ≡ cellCount e → length (cond advances (stored now fresh e k) (resting now fresh e k)) ≡ cellCount e
   arm-length fresh e k l true h = h
-  arm-length fresh e k l false h = kept-length fresh e k l
+  arm-length fresh e k l false h = resting-length fresh e k l
 
   pub stored-length : (fresh : Bool) (e : Expression) (k : ℕ) → k + cellCount e ≤ length (now .memory)
       → length (stored now fresh e k) ≡ cellCount e
@@ -79,6 +79,7 @@ module _ (now : Environment) where
   stored-length fresh (constant d) k l = refl
   stored-length fresh (wire w) k l = refl
   stored-length fresh (input i) k l = refl
+  stored-length fresh (last w) k l = refl
   stored-length fresh (unary o a) k l = stored-length fresh a k l
   stored-length fresh (binary o a b) k l =
       simp length-append (omega (arith, stored-length fresh a k (omega arith), stored-length fresh b (k + cellCount a) (omega arith)))
@@ -97,3 +98,4 @@ module _ (now : Environment) where
       let la = stored-length fresh a (suc k) (omega arith) in
       let lb = stored-length fresh b (suc k + cellCount a) (omega arith) in
       simp length-append (omega (arith, la, lb))
+  stored-length fresh (kept t a) k l = ap suc (stored-length fresh a (suc k) (omega arith))

@@ -13,13 +13,13 @@ use Rattle.sheet.specs.Memory.{cellBytes, memoryBytes}
 use Rattle.sheet.specs.Laws.Memory.{cell-length, memory-length}
 use Rattle.sheet.specs.declared.Cell.{Cell}
 use Rattle.sheet_walk.specs.declared.skip.Skipped.{Skipped}
-use Rattle.kernel.specs.Instant.{kept, stored}
+use Rattle.kernel.specs.Instant.{resting, stored}
 use Rattle.expression.specs.Places.{CellsStand, Gives}
 use Rattle.expression.proofs.Views.{Operand, placed, readable, operand-counted, One, Two, Three}
 use Rattle.storing.specs.Advances.{Ready, Advances, Arm, Rests}
 use Rattle.storing.specs.declared.advance.Advanced.{Advanced}
 use Rattle.storing.proofs.Splices.{sets-turned}
-use Rattle.storing.proofs.Standing.{cells-past, memory-append, kept-length, stored-length}
+use Rattle.storing.proofs.Standing.{cells-past, memory-append, resting-length, stored-length}
 
 module _ {sheet memory words : List ℕ} {level asked at cell : ℕ}
     (p : Ready sheet memory words level asked at cell) where
@@ -34,8 +34,8 @@ module _ {sheet memory words : List ℕ} {level asked at cell : ℕ}
   abbrev pub operandStored : {t a k : ℕ} → Bool → Operand (p .place) t a k → List Cell
   operandStored {k = k} f o = stored (p .place .now) f (o .tree) k
 
-  abbrev pub operandKept : {t a k : ℕ} → Bool → Operand (p .place) t a k → List Cell
-  operandKept {k = k} f o = kept (p .place .now) f (o .tree) k
+  abbrev pub operandResting : {t a k : ℕ} → Bool → Operand (p .place) t a k → List Cell
+  operandResting {k = k} f o = resting (p .place .now) f (o .tree) k
 
   -- m has these cells from number `first` on, up to number k, and is else as it was
   pub record Reached (first k : ℕ) (cells : List Cell) (m : List ℕ) : Type 0 where
@@ -64,7 +64,7 @@ module _ {sheet memory words : List ℕ} {level asked at cell : ℕ}
 
     pub record Rested (v : Skipped) (m : List ℕ) : Type 0 where
       pub answer : v ≡ record { next = o .next; cell = o .count }
-      pub reached : Reached first (o .count) (cs ++ operandKept f o) m
+      pub reached : Reached first (o .count) (cs ++ operandResting f o) m
 
   module _ {first : ℕ} {cs : List Cell} {m : List ℕ} {t a k : ℕ} (o : Operand (p .place) t a k) {n j : ℕ}
       (b : Behind first cs m o n j) where
@@ -135,7 +135,7 @@ module _ {sheet memory words : List ℕ} {level asked at cell : ℕ}
     unfolding standing-arm
     rested {f} {v} {m′} h =
         let s = subst (λ (x : ℕ). Stays m a x f v m′) (b .count) (subst (λ (x : ℕ). Stays m x j f v m′) (b .next) h) standing-arm in
-        record { answer = s .answer; reached = onward _ (kept-length (p .place .now) f (o .tree) k among) (s .holds) }
+        record { answer = s .answer; reached = onward _ (resting-length (p .place .now) f (o .tree) k among) (s .holds) }
 
   -- the operand behind it
   module _ {first : ℕ} {cs : List Cell} {t a k : ℕ} (o : Operand (p .place) t a k) {f : Bool} {m : List ℕ} {u : ℕ}
@@ -145,7 +145,7 @@ module _ {sheet memory words : List ℕ} {level asked at cell : ℕ}
     behind-advanced s = record { reached = s .reached; inside = inside; next = s .answer .next; count = s .answer .count }
 
     behind-rested : {v : Skipped} → Rested first cs o f v m
-        → Behind first (cs ++ operandKept f o) m o′ (v .next) (v .cell)
+        → Behind first (cs ++ operandResting f o) m o′ (v .next) (v .cell)
     behind-rested s =
         record { reached = s .reached; inside = inside; next = ap (λ x. x .next) (s .answer); count = ap (λ x. x .cell) (s .answer) }
 
@@ -248,12 +248,12 @@ module _ {sheet memory words : List ℕ} {level asked at cell : ℕ}
         pub three-rest-2 : Rested k (operandStored f (w .first)) (w .second) f′ v m′
         three-rest-2 = rested (w .second) three-follows h′
 
-        rest-last : Behind k (operandStored f (w .first) ++ operandKept f′ (w .second)) m′ (w .third) (v .next) (v .cell)
+        rest-last : Behind k (operandStored f (w .first) ++ operandResting f′ (w .second)) m′ (w .third) (v .next) (v .cell)
         rest-last = behind-rested (w .second) (w .third) (omega (arith, w .ends .count)) three-rest-2
 
         pub rest-ready-3 : Ready sheet m′ words (level - 1) s (v .next) (v .cell)
         rest-ready-3 = ready (w .third) rest-last
 
         pub rest-step-3 : {f″ : Bool} {x : Advanced} {m″ : List ℕ} → Steps m′ s (v .next) (v .cell) f″ x m″
-            → Stepped k (operandStored f (w .first) ++ operandKept f′ (w .second)) (w .third) f″ x m″
+            → Stepped k (operandStored f (w .first) ++ operandResting f′ (w .second)) (w .third) f″ x m″
         rest-step-3 h″ = advanced (w .third) rest-last h″

@@ -10,7 +10,7 @@ use Rattle.sheet.specs.Expressions.{cellForms}
 use Rattle.sheet.specs.Memory.{memoryBytes, startMemory}
 use Rattle.sheet_walk.specs.Skips.{Readable}
 use Rattle.sheet_walk.specs.declared.skip.Skipped.{Skipped}
-use Rattle.kernel.specs.Instant.{Environment, kept}
+use Rattle.kernel.specs.Instant.{Environment, resting}
 use Rattle.expression.specs.Places.{CellsStand, Placement, Gives, storedBytes}
 use Rattle.storing.specs.declared.advance.Advanced.{Advanced}
 
@@ -51,4 +51,4 @@ pub record Arm (sheet memory : List ℕ) (at cell : ℕ) : Type 0 where
 pub record Rests {sheet memory : List ℕ} {at cell : ℕ} (p : Arm sheet memory at cell) (fresh : Bool) (r : Skipped) (after : List ℕ)
     : Type 0 where
   pub answer : r ≡ record { next = p .place .next; cell = p .place .count }
-  pub holds : after ≡ sets memory (5 * cell) (memoryBytes (kept (p .now) fresh (p .place .tree) cell))
+  pub holds : after ≡ sets memory (5 * cell) (memoryBytes (resting (p .now) fresh (p .place .tree) cell))

@@ -1,8 +1,9 @@
 // An expression advanced: its value, which is known under finished wires, and its cells stored in place. What an expression reads of the
 // memory are its own cells, so that its operands advance one after the other in one memory.
-// Rests on `operations`, on `leaf` and `cells` of `leaves`, and on `rest` for the arm not taken.
+// Rests on `operations`, on `leaf`, `lasts` and `cells` of `leaves`, and on `rest` for the arm not taken.
 use crate::rest;
 use leaves::cells;
+use leaves::lasts;
 use leaves::leaf;
 use sheet::Cell;
 use sheet::data;
@@ -12,7 +13,7 @@ ghost use mathlib.Core.Path.{_≡_};
 ghost use Prim.Native.Nat.{_+_, _≤_, _<_};
 ghost use lib.ListN.{getD};
 ghost use Rattle.sheet.specs.Kinds.{bodyOf};
-ghost use Rattle.leaves.specs.Leaves.{Leaf, leafWord};
+ghost use Rattle.leaves.specs.Leaves.{Leaf, Last, leafWord, lastWord};
 ghost use Rattle.storing.specs.Advances.{Ready, Advances};
 
 // The word of an expression's value, the place past it and the number of the first cell past its own; the numbers stand apart, as
@@ -28,7 +29,7 @@ pub struct Advanced {
 pub fn advance_expression(
     sheet: &[u8],
     memory: &mut [u8],
-    words: &[u32; 80],
+    words: &[u32; 144],
     level: usize,
     asked: u8,
     at: usize,
@@ -46,7 +47,7 @@ pub fn advance_expression(
 }
 
 // A constant, a wire or an input, which has no cells.
-fn advance_leaf(sheet: &[u8], words: &[u32; 80], at: usize, cell: usize) -> Advanced
+fn advance_leaf(sheet: &[u8], words: &[u32; 144], at: usize, cell: usize) -> Advanced
     requires { ⌜ Leaf (now sheet) at ⌝ }
     ensures { λ r. ⌜ r ≡ record {
       next = at + 1 + bodyOf (getD (now (sheet .entry)) at 0);
@@ -61,11 +62,23 @@ fn advance_leaf(sheet: &[u8], words: &[u32; 80], at: usize, cell: usize) -> Adva
     }
 }
 
+// The cell of a kept wire, kind 18, which owns none itself.
+fn advance_last(sheet: &[u8], words: &[u32; 144], at: usize, cell: usize) -> Advanced
+    requires { ⌜ Last (now sheet) at ⌝ }
+    ensures { λ r. ⌜ r ≡ record { next = at + 2; word = lastWord (now (sheet .entry)) (now (words .entry)) at; cell = cell } ⌝ }
+{
+    Advanced {
+        next: at + 2,
+        word: lasts::word_of(sheet, words, at),
+        cell,
+    }
+}
+
 // An operation on one or two operands, kinds 4 to 11, which advance in turn.
 fn advance_operation(
     sheet: &[u8],
     memory: &mut [u8],
-    words: &[u32; 80],
+    words: &[u32; 144],
     level: usize,
     asked: u8,
     at: usize,
@@ -110,7 +123,7 @@ fn advance_operation(
 fn advance_conditional(
     sheet: &[u8],
     memory: &mut [u8],
-    words: &[u32; 80],
+    words: &[u32; 144],
     level: usize,
     asked: u8,
     at: usize,
@@ -156,7 +169,7 @@ fn advance_conditional(
 fn advance_present(
     sheet: &[u8],
     memory: &mut [u8],
-    words: &[u32; 80],
+    words: &[u32; 144],
     level: usize,
     asked: u8,
     at: usize,
@@ -206,7 +219,7 @@ fn advance_present(
 fn advance_reset(
     sheet: &[u8],
     memory: &mut [u8],
-    words: &[u32; 80],
+    words: &[u32; 144],
     level: usize,
     asked: u8,
     at: usize,
@@ -238,7 +251,7 @@ fn advance_reset(
 fn advance_pre(
     sheet: &[u8],
     memory: &mut [u8],
-    words: &[u32; 80],
+    words: &[u32; 144],
     level: usize,
     asked: u8,
     at: usize,
@@ -267,11 +280,12 @@ fn advance_pre(
     }
 }
 
-// An fby, kind 17: its cell is read, then both operands advance, and the cell gets the right one's value.
-fn advance_fby(
+// What gives the value of a cell: kind 18, which has no cell of its own, or an fby, kind 17, whose cell is read; then both its operands
+// advance, and the cell gets the right one's value. They are one function, as in `value_held`.
+fn advance_held(
     sheet: &[u8],
     memory: &mut [u8],
-    words: &[u32; 80],
+    words: &[u32; 144],
     level: usize,
     asked: u8,
     at: usize,
@@ -279,15 +293,18 @@ fn advance_fby(
     fresh: bool,
 ) -> Advanced
     requires { ⌜ Ready (now sheet) (now memory) (now words) level asked at cell ⌝ }
-    requires { ⌜ getD (now sheet) at 0 ≡ 17 ⌝ }
+    requires { ⌜ 17 ≤ getD (now sheet) at 0 ⌝ }
     ensures { λ r. ⌜ ((p : Ready (now (sheet .entry)) (now (memory .entry)) (now (words .entry)) level asked at cell)
         → Advances p fresh r (now (memory .exit))) ⌝ }
 {
+    if sheet[at] == kinds::LAST {
+        return advance_last(sheet, words, at, cell);
+    }
     let below = level - 1;
     let first = at + 1;
     let inner = cell + 1;
     let seen = cells::is_seen(memory, cell, fresh);
-    let kept = memory::word_in(memory, cell);
+    let held = memory::word_in(memory, cell);
     let left = advance_expression(sheet, memory, words, below, asked, first, inner, fresh);
     let right = advance_expression(
         sheet,
@@ -306,7 +323,7 @@ fn advance_fby(
     );
     Advanced {
         next: right.next,
-        word: operations::choose(seen, kept, left.word),
+        word: operations::choose(seen, held, left.word),
         cell: right.cell,
     }
 }
@@ -315,7 +332,7 @@ fn advance_fby(
 fn advance_by_kind(
     sheet: &[u8],
     memory: &mut [u8],
-    words: &[u32; 80],
+    words: &[u32; 144],
     level: usize,
     asked: u8,
     at: usize,
@@ -333,6 +350,6 @@ fn advance_by_kind(
         13 => advance_present(sheet, memory, words, level, asked, at, cell, fresh),
         14 => advance_reset(sheet, memory, words, level, asked, at, cell, fresh),
         15 | 16 => advance_pre(sheet, memory, words, level, asked, at, cell, fresh),
-        _ => advance_fby(sheet, memory, words, level, asked, at, cell, fresh),
+        _ => advance_held(sheet, memory, words, level, asked, at, cell, fresh),
     }
 }

@@ -76,7 +76,7 @@ module _ (now : Environment) (fresh : Bool) where
   strict-awaited = every-kind Strict
       (none ▸ none ▸ (λ p r f t body os e c k i. ap (λ ws. body ∷ ws) (none-awaited os k)) ▸ none
       ▸ one ▸ one ▸ two ▸ two ▸ two ▸ two ▸ two ▸ two ▸ three ▸ (λ p. absurd (p refl)) ▸ (λ p r. absurd (r refl))
-      ▸ delayed ▸ delayed ▸ (λ p r f. absurd (f refl)) ▸ end)
+      ▸ delayed ▸ delayed ▸ (λ p r f. absurd (f refl)) ▸ none ▸ end)
     where
       none : {A B C : Type 0} → A → B → C → ValueType → ℕ → (os : List Expression) → length os ≡ 0 → (c k : ℕ) → k ≡ c + 0
           → [] ≡ allAwaited now fresh (take 0 os) k
@@ -105,7 +105,7 @@ module _ (now : Environment) (fresh : Bool) where
 pub reads-few : (kind : ℕ) → kind < kindCount → readCountOf kind ≤ countOf kind
 reads-few = every-kind (λ kind. readCountOf kind ≤ countOf kind)
     (within ▸ within ▸ within ▸ within ▸ within ▸ within ▸ within ▸ within ▸ within
-    ▸ within ▸ within ▸ within ▸ within ▸ within ▸ within ▸ fewer ▸ fewer ▸ fewer ▸ end)
+    ▸ within ▸ within ▸ within ▸ within ▸ within ▸ within ▸ fewer ▸ fewer ▸ fewer ▸ within ▸ end)
   where
     within : {n : ℕ} → n ≤ n
     within = omega arith
@@ -250,7 +250,7 @@ module _ {sheet memory words : List ℕ} {bits level asked at cell : ℕ} (p : P
     -- Of an fby the left operand, where its cell is not seen as started.
     module _ (of : kind ≡ 17) where
       seen : cond fresh NotStarted (readCell (typeOfByte asked) memory cell) ≡ cond fresh NotStarted (cellAt (p .now .memory) cell)
-      seen = ap (cond fresh NotStarted) (own-cell p (omega arith) .reads)
+      seen = ap (cond fresh NotStarted) (own-cell p (omega arith) (omega arith) .reads)
 
       pub fby-counts-none : isSeen fresh memory cell ≡ true
           → Counts p fresh (record { at = at + 1; cell = cell + 1; operands = 0; rest = 2; fresh = fresh })

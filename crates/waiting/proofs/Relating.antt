@@ -9,13 +9,15 @@ use lib.Seq.{getD-set-same, getD-set-other}
 use borrow.Author.Count.{below-more}
 use Rattle.wires.specs.Sets.{member}
 use Rattle.sheet.specs.Lists.{among}
-use Rattle.sheet.specs.Sheets.{expressionAt}
+use Rattle.sheet.specs.Data.{plainByte}
+use Rattle.sheet.specs.Sheets.{cellsBefore}
 use Rattle.closure.specs.Closures.{lowestLoop, Rows}
 use Rattle.kernel.specs.Values.{isUnknown}
 use Rattle.kernel.specs.Order.{valueAt}
 use Rattle.kernel.specs.Waits.{wiresAwaited, waitsFor, lowestWaiting}
 use Rattle.kernel.specs.Calls.{placeOfLoop}
 use Rattle.kernel.specs.Laws.Order.{known-not}
+use Rattle.kernel.specs.Laws.Kept.{tree-awaited}
 use Rattle.expression.specs.Places.{Placement}
 use Rattle.rounds.specs.Running.{RunningUnder}
 use Rattle.rounds.proofs.Rounding.{held-known, out-unknown}
@@ -33,7 +35,7 @@ module _ {s memory row types places firsts words : List ℕ} {bits : ℕ} (u : R
 
   -- where the expression of the wire stands
   abbrev pub standing : {at cell : ℕ} → at ≡ getD places wire 0 → cell ≡ getD firsts wire 0
-      → Placement s memory words bits 16 (getD types wire 0) at cell
+      → Placement s memory words bits 16 (plainByte (getD types wire 0)) at cell
   standing = wire-placed (u .running) (u .holds) (u .typed) wire l
 
   -- an unknown one waits for what its expression waits for
@@ -42,11 +44,13 @@ module _ {s memory row types places firsts words : List ℕ} {bits : ℕ} (u : R
   unfolding waitsFor
   unknown-row missing at-is cell-is awaits w =
       let now = environmentOf (u .running) (u .values) in
-      let tree = expressionAt (u .running .given .sheet .expressions) wire in
+      let at = u .running .starts wire l in
+      let first = cellsBefore (u .running .given .sheet .expressions) wire in
       let unknown = out-unknown (u .holds) wire missing in
+      let within = tree-awaited now false (getD types wire 0) (at .tree) first in
       awaits .same w
-      ∙ (ap (λ k. isUnknown (valueAt (u .values) w) && among w (wiresAwaited now false tree k)) (cell-is ∙ u .running .starts wire l .first)
-      ∙ sym (rw unknown))
+      ∙ (ap (λ k. isUnknown (valueAt (u .values) w) && among w (wiresAwaited now false (at .tree) k)) (cell-is ∙ at .first)
+      ∙ (ap (λ ws. isUnknown (valueAt (u .values) w) && among w ws) (sym within) ∙ sym (rw (unknown, at .whole))))
 
 -- the sets of the first k wires, and one more
 pub next-row : (test : ℕ → ℕ → Bool) {k : ℕ} {rows : List ℕ} (found : ℕ) → k < length rows → Rows test k rows

@@ -11,7 +11,8 @@ use Rattle.sheet.specs.Readings.{got, readExpression}
 use Rattle.sheet_walk.specs.Skips.{Readable}
 use Rattle.kernel.specs.Values.{isUnknown}
 use Rattle.kernel.specs.Order.{valueAt}
-use Rattle.kernel.specs.Instant.{Environment, under}
+use Rattle.kernel.specs.Instant.{Environment}
+use Rattle.kernel.specs.Instants.{under}
 use Rattle.kernel.specs.Waits.{wiresAwaited, waitsFor}
 use Rattle.kernel.specs.declared.Value.the-variants.{Unknown}
 use Rattle.expression.specs.Places.{CellsStand, Placement}
@@ -65,4 +66,4 @@ module _ (sheet memory words : List ℕ) (bits level at cell : ℕ) (fresh : Boo
 -- which wire waits for which under the values of what runs
 abbrev pub waitsIn : {s memory row types places firsts words : List ℕ} {bits : ℕ}
     → RunningUnder s memory row types places firsts bits words → ℕ → ℕ → Bool
-waitsIn u = let given = u .running .given in waitsFor (under (given .inputs) (given .memory) (u .values)) (given .sheet .expressions)
+waitsIn u = let given = u .running .given in waitsFor (under (given .sheet) (given .inputs) (given .memory) (u .values)) (given .sheet .expressions)

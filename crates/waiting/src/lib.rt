@@ -12,7 +12,7 @@ ghost use lib.ListN.{length};
 ghost use Rattle.wires.specs.Sets.{member};
 ghost use Rattle.closure.specs.Closures.{Rows};
 ghost use Rattle.kernel.specs.Calls.{placeOfLoop};
-ghost use Rattle.leaves.specs.Words.{inputWords};
+ghost use Rattle.leaves.specs.Words.{fixedWords};
 ghost use Rattle.rounds.specs.Running.{RunningUnder};
 ghost use Rattle.waiting.specs.Waiting.{waitsIn};
 
@@ -24,12 +24,12 @@ fn set_of(
     places: &[u16; 64],
     firsts: &[u8; 64],
     known: Wires,
-    words: &[u32; 80],
+    words: &[u32; 144],
     wire: usize,
 ) -> Wires
-    requires { ⌜ RunningUnder (now sheet) (now memory) (inputWords (now words)) (now types) (now places) (now firsts)
+    requires { ⌜ RunningUnder (now sheet) (now memory) (fixedWords (now words)) (now types) (now places) (now firsts)
         (known .bits) (now words) × (wire < length (now types)) ⌝ }
-    ensures { λ r. ⌜ ((u : RunningUnder (now (sheet .entry)) (now (memory .entry)) (inputWords (now (words .entry))) (now (types .entry))
+    ensures { λ r. ⌜ ((u : RunningUnder (now (sheet .entry)) (now (memory .entry)) (fixedWords (now (words .entry))) (now (types .entry))
         (now (places .entry)) (now (firsts .entry)) (known .bits) (now (words .entry)))
         → (w : ℕ) → member (r .bits) w ≡ waitsIn u wire w) ⌝ }
 {
@@ -50,12 +50,12 @@ fn relate(
     places: &[u16; 64],
     firsts: &[u8; 64],
     known: Wires,
-    words: &[u32; 80],
+    words: &[u32; 144],
     sets: &mut [u64; 64],
 )
-    requires { ⌜ RunningUnder (now sheet) (now memory) (inputWords (now words)) (now types) (now places) (now firsts)
+    requires { ⌜ RunningUnder (now sheet) (now memory) (fixedWords (now words)) (now types) (now places) (now firsts)
         (known .bits) (now words) × (64 ≤ length (now sets)) ⌝ }
-    ensures { λ _. ⌜ ((u : RunningUnder (now (sheet .entry)) (now (memory .entry)) (inputWords (now (words .entry))) (now (types .entry))
+    ensures { λ _. ⌜ ((u : RunningUnder (now (sheet .entry)) (now (memory .entry)) (fixedWords (now (words .entry))) (now (types .entry))
         (now (places .entry)) (now (firsts .entry)) (known .bits) (now (words .entry)))
         → Rows (waitsIn u) (length (now (types .entry))) (now (sets .exit))) ⌝ }
     ensures { λ _. ⌜ length (now (sets .exit)) ≡ length (now (sets .entry)) ⌝ }
@@ -76,12 +76,12 @@ pub fn lowest_waiting(
     places: &[u16; 64],
     firsts: &[u8; 64],
     known: Wires,
-    words: &[u32; 80],
+    words: &[u32; 144],
     sets: &mut [u64; 64],
 ) -> usize
-    requires { ⌜ RunningUnder (now sheet) (now memory) (inputWords (now words)) (now types) (now places) (now firsts)
+    requires { ⌜ RunningUnder (now sheet) (now memory) (fixedWords (now words)) (now types) (now places) (now firsts)
         (known .bits) (now words) × (64 ≤ length (now sets)) ⌝ }
-    ensures { λ r. ⌜ ((u : RunningUnder (now (sheet .entry)) (now (memory .entry)) (inputWords (now (words .entry))) (now (types .entry))
+    ensures { λ r. ⌜ ((u : RunningUnder (now (sheet .entry)) (now (memory .entry)) (fixedWords (now (words .entry))) (now (types .entry))
         (now (places .entry)) (now (firsts .entry)) (known .bits) (now (words .entry)))
         → r ≡ placeOfLoop (u .running .given) (u .values)) ⌝ }
 {

@@ -22,15 +22,18 @@ enum {
     number_bit = 1 << number_shift
 };
 
-/* The types that an expression may have, one bit for each, stand in a table that begins with these; inputs and wires have the entries
- * behind, in order. A Boolean constant has two entries because its body is taken for a name. */
+/* The types that an expression may have, one bit for each, stand in a table that begins with these; inputs, wires and the lasts of wires
+ * have the entries behind, in order. A Boolean constant has two entries because its body is taken for a name. The last of a wire that is
+ * not kept has no type. */
 enum {
     type_boolean = 0,
     type_number = 2,
     type_either = 3,
     type_input = 4,
     type_wire = type_input + most_inputs,
-    types = type_wire + most_wires
+    type_last = type_wire + most_wires,
+    types = type_last + most_wires,
+    kept_bit = 4 /* beside the type of a wire that is kept */
 };
 
 /* What is fixed of a kind. Of each operand, the last one first, there are the bits that are fixed and those that it takes over. */
@@ -66,12 +69,16 @@ struct program {
     unsigned wires;
     unsigned outputs;
     unsigned cells;
-    struct node *end; /* of the nodes read so far */
+    bool some_kept;
+    uint64_t kept;       /* one bit for each wire */
+    unsigned cell_limit; /* where some are kept, what the cells stay within: those of kept wires to come take up the rest */
+    struct node *end;    /* of the nodes read so far */
     uint8_t types[types];
     uint8_t name_limit[kinds]; /* what a body of one byte stays below */
     struct node *wire_node[most_wires + 1];
     uint64_t wire_reads[most_wires]; /* within the instant, one bit for each wire */
-    struct node *cell_node[most_cells + 1];
+    uint16_t kept_place[most_wires]; /* where the memory has the cell of a wire that is kept */
+    const struct node *cell_node[most_cells + 1];
     uint8_t cell_type[most_cells + 1];
     uint8_t sheet[longest_sheet + 8]; /* a copy, and bytes that are no kinds: so a body may be read before it is seen to be cut */
     struct node node[1 + longest_sheet];
@@ -185,7 +192,7 @@ bool make_round(struct instant *instant, struct rounds *rounds);
 /* Starts the cells from the first one to before the end. */
 void start_cells(const struct program *program, uint8_t *memory, unsigned first, unsigned end);
 
-/* Stores the cells of all wires, whose numbers, all finished, are the instant's. */
+/* Stores the cells of all wires, kept ones and those of expressions; the numbers, all finished, are the instant's. */
 void store_wires(const struct instant *instant);
 
 #endif

@@ -31,7 +31,11 @@ static const struct shape shapes[kinds] = {
     [kind_boolean_pre] = {2, 1, 1, type_boolean, 255, {DELAYED}, {PLACE}, 255},
     [kind_number_pre] = {5, 1, 1, type_number, 0, {DELAYED | NUMBER}, {PLACE}, UINT32_MAX},
     [kind_fby] = {1, 2, 1, type_either, 0, {SECOND | DELAYED, 0}, {PLACE_AND_TYPE, PLACE_AND_TYPE}, 0},
+    [kind_last] = {2, 0, 0, type_last, 255, {0}, {0}, 255},
 };
+
+/* Owns the cells of kept wires, and starts them with 0. */
+static const struct node owner_of_kept = {.kind = kind_last};
 
 /* ---- The header ---- */
 
@@ -46,14 +50,20 @@ static uint32_t read_count(struct program *program, unsigned least, unsigned mos
     return 0;
 }
 
-static uint32_t read_types(struct program *program, unsigned count, uint8_t *types)
+static uint32_t read_types(struct program *program, unsigned count, unsigned highest, uint8_t *types)
 {
-    for (unsigned index = 0; index < count; index++, program->place++) {
-        const unsigned type = program->sheet[program->place];
-        if (type > 1)
-            return program->place < program->length ? refusal(4, program->place) : refusal(2, program->length);
-        types[index] = (uint8_t)(1u << type);
+    static const uint8_t types_of_bytes[highest_wire_type + 1] = {1, 2, 1 | kept_bit, 2 | kept_bit};
+    size_t place = program->place;
+    unsigned met = 0;
+    for (unsigned index = 0; index < count; index++, place++) {
+        const unsigned type = program->sheet[place];
+        if (type > highest)
+            return place < program->length ? refusal(4, place) : refusal(2, program->length);
+        types[index] = types_of_bytes[type];
+        met |= type;
     }
+    program->place = place;
+    program->some_kept = is_kept(met);
     return 0;
 }
 
@@ -76,11 +86,11 @@ static uint32_t read_header(struct program *program)
 {
     uint32_t refused = read_count(program, 0, most_inputs, &program->inputs);
     if (refused == 0)
-        refused = read_types(program, program->inputs, program->types + type_input);
+        refused = read_types(program, program->inputs, highest_input_type, program->types + type_input);
     if (refused == 0)
         refused = read_count(program, 1, most_wires, &program->wires);
     if (refused == 0)
-        refused = read_types(program, program->wires, program->types + type_wire);
+        refused = read_types(program, program->wires, highest_wire_type, program->types + type_wire);
     if (refused == 0)
         refused = read_count(program, 1, most_outputs, &program->outputs);
     if (refused == 0)
@@ -90,7 +100,8 @@ static uint32_t read_header(struct program *program)
 
 /* ---- The expressions ---- */
 
-/* The reading with the reads noted is made apart from that without, so that the latter does nothing for it. */
+/* The reading with the reads noted is made apart from that without, and that with kept wires likewise, so that none does anything for what
+ * it does not need. */
 #define ALWAYS_INLINE static inline __attribute__((always_inline))
 
 /* The wire that an expression reads within the instant, if it does; a number only counts where it is a wire's. */
@@ -113,15 +124,16 @@ static inline void note_node(struct program *program, struct node *node, unsigne
 }
 
 /* Reads the expression of a wire: the operands that are still to be read stand on a stack, the next one on top. */
-ALWAYS_INLINE uint32_t read_wire(struct program *program, unsigned wire, bool noting_reads)
+ALWAYS_INLINE uint32_t read_wire(struct program *program, unsigned wire, bool noting_reads, bool some_kept)
 {
     uint16_t stack[2 * deepest_level + 4];
     uint16_t *top = stack;
     size_t place = program->place;
     unsigned cells = program->cells;
+    const unsigned cell_limit = some_kept ? program->cell_limit : most_cells;
     struct node *node = program->end;
     uint64_t reads = 0;
-    *top++ = (uint16_t)(1 + (program->types[type_wire + wire] >> 1 << number_shift));
+    *top++ = (uint16_t)(1 + ((program->types[type_wire + wire] >> 1 & 1) << number_shift));
     while (top != stack) {
         const unsigned standing = *--top;
         const unsigned asked = standing >> number_shift;
@@ -135,14 +147,15 @@ ALWAYS_INLINE uint32_t read_wire(struct program *program, unsigned wire, bool no
         const unsigned name = body & shape->name_mask;
         note_node(program, node++, kind, standing, cells, body & shape->body_mask);
         cells += shape->owns_cell;
-        if (cells > most_cells)
+        if (cells > cell_limit)
             return refusal(10, place);
         if (place + shape->bytes > program->length)
             return refusal(2, program->length);
         if (name >= program->name_limit[kind])
             return refusal(7, place);
+        /* Nothing but the last of a wire that is not kept has no type at all. */
         if ((program->types[shape->type + name] >> asked & 1) == 0)
-            return refusal(9, place);
+            return refusal(program->types[shape->type + name] == 0 ? 7 : 9, place);
         if (noting_reads)
             reads |= read_of(kind, standing, name);
         place += shape->bytes;
@@ -158,16 +171,46 @@ ALWAYS_INLINE uint32_t read_wire(struct program *program, unsigned wire, bool no
     return 0;
 }
 
-ALWAYS_INLINE uint32_t read_expressions(struct program *program, bool noting_reads)
+/* The cells of kept wires count from the start, and their lasts have a type. */
+static void find_kept(struct program *program)
+{
+    program->cell_limit = most_cells;
+    program->name_limit[kind_last] = (uint8_t)program->wires;
+    for (unsigned wire = 0; wire < program->wires; wire++) {
+        const unsigned type = program->types[type_wire + wire];
+        const unsigned kept = type / kept_bit;
+        program->kept |= (uint64_t)kept << wire;
+        program->cell_limit -= kept;
+        program->types[type_last + wire] = (uint8_t)(kept * type);
+    }
+}
+
+/* The cell of a kept wire is numbered before those of its expression. */
+static void number_kept(struct program *program, unsigned wire)
+{
+    program->kept_place[wire] = (uint16_t)(bytes_of_cell * program->cells);
+    program->cell_node[program->cells] = &owner_of_kept;
+    program->cell_type[program->cells] = program->types[type_wire + wire] >> 1 & 1;
+    program->cells++;
+    program->cell_limit++;
+}
+
+ALWAYS_INLINE uint32_t read_expressions(struct program *program, bool noting_reads, bool some_kept)
 {
     program->cells = 0;
     program->end = program->node + 1;
     memset(program->name_limit, 2, sizeof program->name_limit);
     program->name_limit[kind_wire] = (uint8_t)program->wires;
     program->name_limit[kind_input] = (uint8_t)program->inputs;
+    program->name_limit[kind_last] = 0;
+    program->kept = 0;
+    if (some_kept)
+        find_kept(program);
     for (unsigned wire = 0; wire < program->wires; wire++) {
+        if (some_kept && program->types[type_wire + wire] >= kept_bit)
+            number_kept(program, wire);
         program->wire_node[wire] = program->end;
-        const uint32_t refused = read_wire(program, wire, noting_reads);
+        const uint32_t refused = read_wire(program, wire, noting_reads, some_kept);
         if (refused != 0)
             return refused;
     }
@@ -186,7 +229,9 @@ ALWAYS_INLINE uint32_t read_sheet_into(struct program *program, const uint8_t *s
     program->length = length;
     program->place = 0;
     const uint32_t refused = read_header(program);
-    return refused != 0 ? refused : read_expressions(program, noting_reads);
+    if (refused != 0)
+        return refused;
+    return program->some_kept ? read_expressions(program, noting_reads, true) : read_expressions(program, noting_reads, false);
 }
 
 uint32_t read_program(struct program *program, const uint8_t *sheet, size_t length)
@@ -201,6 +246,12 @@ uint32_t read_program_and_reads(struct program *program, const uint8_t *sheet, s
 
 /* ---- The nodes linked ---- */
 
+/* As the table of shapes has it, without a look at the table. */
+static inline bool owns_cell(unsigned kind)
+{
+    return kind >= kind_boolean_pre && kind <= kind_fby;
+}
+
 /* Links the nodes of a wire, tells each of them its cells, and answers the wires that are read within the instant. The path leads from
  * the wire down to the node at hand. */
 static uint64_t link_wire(struct node **path, struct node *node, const struct node *end)
@@ -213,7 +264,7 @@ static uint64_t link_wire(struct node **path, struct node *node, const struct no
         parent->is.link[standing >> third_shift & 1] = (uint16_t)(node - parent);
         path[level] = node;
         reads |= read_of(node->kind, standing, node->is.number);
-        for (unsigned above = node->kind >= kind_boolean_pre ? level : 0; above != 0; above--)
+        for (unsigned above = owns_cell(node->kind) ? level : 0; above != 0; above--)
             path[above]->end_cell = (uint8_t)(node->first_cell + 1);
     }
     return reads;

@@ -81,9 +81,12 @@ static void store(const struct instant *instant, const struct node *node, bool f
     }
 }
 
+/* The kept cells come last, since any expression may rest on them. */
 void store_wires(const struct instant *instant)
 {
     const struct program *const program = instant->program;
     for (unsigned wire = 0; wire < program->wires; wire++)
         store_where_cells(instant, program->wire_node[wire], false);
+    for (uint64_t left = program->kept; left != 0; left &= left - 1)
+        write_cell(instant->next_memory + program->kept_place[lowest_of(left)], 1, instant->wires[lowest_of(left)]);
 }

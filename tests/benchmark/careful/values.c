@@ -96,6 +96,13 @@ static uint32_t number_of_fby(const struct instant *instant, const struct node *
     return fresh || cell[0] == 0 ? number_of(instant, node + 1, fresh) : read_number(cell + 1);
 }
 
+/* Fresh or not: no reset touches a kept cell. */
+static uint32_t number_of_last(const struct instant *instant, const struct node *node, bool fresh)
+{
+    (void)fresh;
+    return read_number(instant->memory + instant->program->kept_place[node->is.number] + 1);
+}
+
 static uint64_t value_of_constant(const struct instant *instant, const struct node *node, bool fresh)
 {
     return KNOWN | number_of_constant(instant, node, fresh);
@@ -147,6 +154,11 @@ static uint64_t value_of_fby(const struct instant *instant, const struct node *n
     return fresh || cell[0] == 0 ? value_of(instant, node + 1, fresh) : KNOWN | read_number(cell + 1);
 }
 
+static uint64_t value_of_last(const struct instant *instant, const struct node *node, bool fresh)
+{
+    return KNOWN | number_of_last(instant, node, fresh);
+}
+
 number_function *const number_functions[kinds] = {
     [kind_boolean] = number_of_constant,
     [kind_number] = number_of_constant,
@@ -165,6 +177,7 @@ number_function *const number_functions[kinds] = {
     [kind_boolean_pre] = number_of_pre,
     [kind_number_pre] = number_of_pre,
     [kind_fby] = number_of_fby,
+    [kind_last] = number_of_last,
 };
 
 value_function *const value_functions[kinds] = {
@@ -185,4 +198,5 @@ value_function *const value_functions[kinds] = {
     [kind_boolean_pre] = value_of_pre,
     [kind_number_pre] = value_of_pre,
     [kind_fby] = value_of_fby,
+    [kind_last] = value_of_last,
 };

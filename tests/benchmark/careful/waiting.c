@@ -29,6 +29,7 @@ static uint64_t waits_of(const struct instant *instant, const struct node *node,
     case kind_input:
     case kind_boolean_pre:
     case kind_number_pre:
+    case kind_last:
         return 0;
     case kind_wire:
         return UINT64_C(1) << node->is.number & ~instant->known;

@@ -1,4 +1,5 @@
 -- `given_of` meets its contract: the answers follow those of the check and of the buffers' tests, and what passed is granted.
+use Prim.Native.Nat.{_≤_}
 use mathlib.Core.Path.{_≡_, sym, ap, _∙_}
 use native.Mathlib.Omega.{arith}
 use borrow.Author.Needs.{needs}
@@ -10,7 +11,7 @@ use Rattle.given.specs.Grants.{partsOf}
 use Rattle.buffers.specs.Tests.{buffersTested}
 use Rattle.given.proofs.Passing.{noted-forms, Passes, own-tests, passes, sheet-refused, buffers-refused, buffers-passed}
 use Rattle.given.proofs.Standing.{input-length}
-use Rattle.given.proofs.Granting.{grants-refusal, grants-parts}
+use Rattle.given.proofs.Granting.{grants-refusal, grants-kept, grants-parts}
 use Rattle.given.proofs.given_of.Statement.{statement}
 use Rattle.given.proofs.given_of.Tie as tie
 
@@ -84,13 +85,51 @@ passed c =
     let at = c .before .before in
     buffers-passed _ _ _ _ (found (before-tests at) .checked .outcome) (sym (c .enum-told .given .1) ∙ tested at)
 
-put-inputs-requires : tie.Need-put-inputs-requires
-put-inputs-requires c κs =
-    (input-length _ _ _ _ _ (passed (c .before) .1), start (before-tests (c .before .before .before)) .pre .3)
+-- the wires that were counted are few
+few : (c : tie.After-enum-told) → let n = before-tests (c .before .before) .before .inputs .given .0 in (n .0 ≤ 16) × (n .1 .0 ≤ 64)
+few c = let p = found (before-tests (c .before .before)) .checked in (p .few-inputs, p .few-wires)
+
+add-wire-types : tie.Need-add-wire-types
+add-wire-types c = omega (arith, few c)
+
+add-wire-types-2 : tie.Need-add-wire-types-2
+add-wire-types-2 c = omega (arith, few c)
+
+add-wire-types-3 : tie.Need-add-wire-types-3
+add-wire-types-3 c = omega (arith, few c)
+
+sub-wire-types : tie.Need-sub-wire-types
+sub-wire-types c = omega arith
+
+part-wire-types-start : tie.Need-part-wire-types-start
+part-wire-types-start c = omega arith
+
+-- where the wires' types stand, and that the cells of those that are kept are there
+part-wire-types-end : tie.Need-part-wire-types-end
+part-wire-types-end c =
+    let at = before-tests (c .before .before) in
+    let p = found at .checked in
+    let (given, passes, is) = passed c in
+    let memory = at .before .before .before .before .before .before .before .before .before .before in
+    rw (is, p .inputs-are, p .wires-are)
+    at (grants-kept _ _ _ _ _ _ _ given passes (λ sheet n k v. at .before .before .before .check-map .ensures .1 sheet n k v .sites)
+    (λ i. omega (arith, memory .shared-slice-known2 .given i)) .0)
+
+put-fixed-requires : tie.Need-put-fixed-requires
+put-fixed-requires c κs =
+    let told = c .before .before .before in
+    let at = before-tests (told .before .before) in
+    let p = found at .checked in
+    let (given, passes, is) = passed told in
+    let memory = at .before .before .before .before .before .before .before .before .before .before in
+    let (within, kept, count) = rw (is, p .inputs-are, p .wires-are)
+    at (grants-kept _ _ _ _ _ _ _ given passes (λ sheet n k v. at .before .before .before .check-map .ensures .1 sheet n k v .sites)
+    (λ i. omega (arith, memory .shared-slice-known2 .given i))) in
+    (kept, count, input-length _ _ _ _ _ passes, start at .pre .3)
 
 parts-requires : tie.Need-parts-requires
 parts-requires c κs =
-    let p = found (before-tests (c .before .before .before .before)) .checked in (p .few-inputs, p .few-wires, p .few-outputs)
+    let p = found (before-tests (c .before .before .before .before .before .before)) .checked in (p .few-inputs, p .few-wires, p .few-outputs)
 
 returns : tie.Need-returns
 returns c =
@@ -104,17 +143,17 @@ returns-2 c =
 
 returns-3 : tie.Need-returns-3
 returns-3 c =
-    let at = before-tests (c .before .before .before .before .before) in
+    let at = before-tests (c .before .before .before .before .before .before .before) in
     let p = found at .checked in
-    let (given, passes, is) = passed (c .before .before .before) in
+    let (given, passes, is) = passed (c .before .before .before .before .before) in
     let drawn = at .before .before .before .check-map .ensures .1 in
     let memory = at .before .before .before .before .before .before .before .before .before .before in
-    let put = c .before .put-inputs .ensures in
+    let put = c .before .put-fixed .ensures in
     let counts : partsOf (length (given .sheet .inputTypes)) (length (given .sheet .wireTypes)) (length (given .sheet .outputs))
     ≡ c .parts .result = rw (is, p .inputs-are, p .wires-are, p .outputs-are) (sym (c .parts .ensures)) in
     rw (← counts)
-    (grants-parts _ _ _ _ _ _ _ _ given passes (λ sheet n k v. drawn sheet n k v .sites)
-    (λ i. omega (arith, memory .shared-slice-known2 .given i)) (put .0) (put .1))
+    (grants-parts _ _ _ _ _ _ _ given passes (λ sheet n k v. drawn sheet n k v .sites)
+    (λ i. omega (arith, memory .shared-slice-known2 .given i)) _ (put .0) (rw (is, p .inputs-are, p .wires-are) (put .1)) (put .2))
 
 pub given-of-spec : {M : Type 1} → statement M
 given-of-spec =
@@ -130,7 +169,13 @@ given-of-spec =
     check-buffers-requires
     enum-known-why-2
     enum-told
-    put-inputs-requires
+    add-wire-types
+    add-wire-types-2
+    add-wire-types-3
+    sub-wire-types
+    part-wire-types-start
+    part-wire-types-end
+    put-fixed-requires
     parts-requires
     returns
     returns-2

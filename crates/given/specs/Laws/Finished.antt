@@ -11,7 +11,7 @@ use Rattle.kernel.specs.Instants.{outputRow}
 use Rattle.kernel.specs.Calls.{Given}
 use Rattle.kernel.specs.Laws.Memory.{finished-typed}
 use Rattle.kernel.specs.Laws.Demands.{givenFinished}
-use Rattle.leaves.specs.Words.{inputWords}
+use Rattle.leaves.specs.Words.{fixedWords}
 use Rattle.rounds.specs.Running.{Holds, RunningUnder}
 use Rattle.rounds.specs.Settled.{Settled}
 use Rattle.rounds.specs.Outputs.{Below, wordsOf, output-words}
@@ -23,13 +23,13 @@ module _ {s memory input output places firsts reads start types outputs : List �
   given = g .running .given
 
   abbrev pub HoldsFinished : ℕ → List ℕ → Type 0
-  HoldsFinished bits words = Holds (length types) (inputWords start) bits words (givenFinished given)
+  HoldsFinished bits words = Holds (length types) (fixedWords start) bits words (givenFinished given)
 
   abbrev pub FullFinished : Type 0
   FullFinished = Full (length types) (givenFinished given)
 
   abbrev pub under-finished : {bits : ℕ} {words : List ℕ} → HoldsFinished bits words
-      → RunningUnder s memory (inputWords start) types places firsts bits words
+      → RunningUnder s memory (fixedWords start) types places firsts bits words
   under-finished h =
       let r = g .running in
       record {
@@ -40,7 +40,7 @@ module _ {s memory input output places firsts reads start types outputs : List �
       }
 
   abbrev pub settled : {bits : ℕ} {words : List ℕ} → HoldsFinished bits words → FullFinished → Settled s memory types places firsts words
-  settled {bits} h full = record { row = inputWords start; bits = bits; under = under-finished h; full = full }
+  settled {bits} h full = record { row = fixedWords start; bits = bits; under = under-finished h; full = full }
 
   -- each output is one of 64 wires, and the row has room for each
   pub row-fits : Below 64 outputs × (length output ≡ 4 * length outputs)

@@ -9,7 +9,7 @@ use Rattle.kernel.specs.Values.{truth, whenKnown}
 use Rattle.kernel.specs.Order.{_⊑_, same, _⊑*_, valueAt}
 use Rattle.sheet.specs.Lists.{Every}
 use Rattle.kernel.specs.Operations.{applyUnary, applyBinary}
-use Rattle.sheet.specs.Expressions.{Expression, constant, wire, input, unary, binary, choose, reset, pre, fby}
+use Rattle.sheet.specs.Expressions.{Expression, constant, wire, input, last, unary, binary, choose, reset, pre, fby, kept}
 use Rattle.sheet.specs.Expressions.{Choice, conditional, present}
 use Rattle.sheet.specs.Expressions.{cellCount}
 use Rattle.sheet.specs.declared.Cell.{Cell}
@@ -22,10 +22,11 @@ use Rattle.sheet.specs.declared.Datum.{Datum}
 use Rattle.kernel.specs.declared.Value.{Value}
 use Rattle.kernel.specs.declared.Value.the-variants.{Unknown, Known}
 
--- two environments agree on these wires, up to R, on these inputs, and on the cells from number k on
+-- two environments agree on these wires, up to R, on these inputs, on what the kept wires' cells hold, and on the cells from number k on
 pub record Agree (R : Value → Value → Type 0) (s t : Environment) (ws is : List ℕ) (k cells : ℕ) : Type 0 where
   pub onWires : Every (λ w. R (valueAt (s .wires) w) (valueAt (t .wires) w)) ws
   pub onInputs : Every (λ i. inputAt (s .inputs) i ≡ inputAt (t .inputs) i) is
+  pub onLasts : s .lasts ≡ t .lasts
   pub onCells : (j : ℕ) → k ≤ j → j < k + cells → cellAt (s .memory) j ≡ cellAt (t .memory) j
 
 -- a relation that strict functions respect
@@ -41,8 +42,8 @@ module _ (R : Value → Value → Type 0) (respected : Respected R) (s t : Envir
   halves ws vs is js k c d h =
       let (ws₁, ws₂) = every-append ws vs (h .onWires) in
       let (is₁, is₂) = every-append is js (h .onInputs) in (
-        record { onWires = ws₁; onInputs = is₁; onCells = λ j l m. h .onCells j l (omega arith) },
-        record { onWires = ws₂; onInputs = is₂; onCells = λ j l m. h .onCells j (omega arith) (omega arith) },
+        record { onWires = ws₁; onInputs = is₁; onLasts = h .onLasts; onCells = λ j l m. h .onCells j l (omega arith) },
+        record { onWires = ws₂; onInputs = is₂; onLasts = h .onLasts; onCells = λ j l m. h .onCells j (omega arith) (omega arith) },
       )
 
   chosen-related : (o : Choice) (b : Bool) {u v x y : Value} → R u x → R v y → R (chosen o b u v) (chosen o b x y)
@@ -54,12 +55,23 @@ module _ (R : Value → Value → Type 0) (respected : Respected R) (s t : Envir
   from-cell NotStarted p = p
   from-cell (Started d) p = reflexive (Known d)
 
+  -- of an expression that owns a cell, on what its first operand reads and owns
+  behind-own : (a : Expression) (k : ℕ) {cells : ℕ} → cellCount a < cells → Agree R s t (wiresRead a) (inputsRead a) k cells
+      → Agree R s t (wiresRead a) (inputsRead a) (suc k) (cellCount a)
+  behind-own a k more h = record {
+    onWires = h .onWires;
+    onInputs = h .onInputs;
+    onLasts = h .onLasts;
+    onCells = λ j l m. h .onCells j (omega arith) (omega arith);
+  }
+
   pub related : (e : Expression) (fresh : Bool) (k : ℕ) → Agree R s t (wiresRead e) (inputsRead e) k (cellCount e)
       → R (value s fresh e k) (value t fresh e k)
   unfolding value wiresRead inputsRead cellCount
   related (constant d) fresh k h = reflexive (Known d)
   related (wire w) fresh k h = only (h .onWires)
   related (input i) fresh k h = rw (only (h .onInputs)) (reflexive (Known (inputAt (t .inputs) i)))
+  related (last w) fresh k h = rw (h .onLasts) (reflexive _)
   related (unary o a) fresh k h = strict (related a fresh k h) (λ x. reflexive (Known (applyUnary o x)))
   related (binary o a b) fresh k h =
       let (p, q) = halves (wiresRead a) (wiresRead b) (inputsRead a) (inputsRead b) k (cellCount a) (cellCount b) h in
@@ -76,11 +88,8 @@ module _ (R : Value → Value → Type 0) (respected : Respected R) (s t : Envir
   related (pre d a) fresh k h = rw (h .onCells k (omega arith) (omega arith)) (reflexive _)
   related (fby u a b) fresh k h =
       rw (h .onCells k (omega arith) (omega arith))
-      (from-cell (cond fresh NotStarted (cellAt (t .memory) k)) (related a fresh (suc k) left))
-    where
-      left : Agree R s t (wiresRead a) (inputsRead a) (suc k) (cellCount a)
-      left =
-          record { onWires = h .onWires; onInputs = h .onInputs; onCells = λ j l m. h .onCells j (omega arith) (omega arith) }
+      (from-cell (cond fresh NotStarted (cellAt (t .memory) k)) (related a fresh (suc k) (behind-own a k (omega arith) h)))
+  related (kept u a) fresh k h = related a fresh (suc k) (behind-own a k (omega arith) h)
 
 whenKnown-same : {u v : Value} {f g : Datum → Value} → u ≡ v → ((d : Datum) → f d ≡ g d) → whenKnown u f ≡ whenKnown v g
 whenKnown-same {v = v} {f = f} {g = g} e h = rw e (at v)
@@ -101,12 +110,13 @@ pub value-depends : (s t : Environment) (e : Expression) (fresh : Bool) (k : ℕ
 value-depends = related _≡_ equality-respected
 
 -- grows with the wires
-pub value-grows : (s t : Environment) → s .inputs ≡ t .inputs → s .memory ≡ t .memory → s .wires ⊑* t .wires
+pub value-grows : (s t : Environment) → s .inputs ≡ t .inputs → s .lasts ≡ t .lasts → s .memory ≡ t .memory → s .wires ⊑* t .wires
     → (e : Expression) (fresh : Bool) (k : ℕ) → value s fresh e k ⊑ value t fresh e k
-value-grows s t i m h e fresh k =
+value-grows s t i n m h e fresh k =
     related _⊑_ order-respected s t e fresh k
     (record {
       onWires = every (λ w. valueAt (s .wires) w ⊑ valueAt (t .wires) w) (h .at) (wiresRead e);
       onInputs = every (λ j. inputAt (s .inputs) j ≡ inputAt (t .inputs) j) (λ j. rw i) (inputsRead e);
+      onLasts = n;
       onCells = λ j l u. rw m;
     })

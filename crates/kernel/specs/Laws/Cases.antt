@@ -13,7 +13,7 @@ use Rattle.sheet.specs.Kinds.{meaningOf, operandsOf}
 use Rattle.sheet.specs.Outcomes.{Outcome, refusal, result, followedBy, lowest}
 use Rattle.sheet.specs.Readings.{readEach, namesOf, bodyFrom, ownOf, readExpression}
 use Rattle.sheet.specs.Headers.{fieldOf, bytesOf, sectionOf}
-use Rattle.sheet.specs.Sheets.{Sheet, formsOf, outputsFrom, wiresFrom, readSheet, sheetOf}
+use Rattle.sheet.specs.Sheets.{Sheet, formsOf, keptCount, readWires, outputsFrom, wiresFrom, readSheet, sheetOf}
 use Rattle.sheet.specs.Memory.{memoryBytes, invalidAt, cellsFrom, memoryOf, startMemory, startOutcome, startCall}
 use Rattle.sheet.specs.Rows.{rowBytes, wrongAt, dataFrom, inputsOf}
 use Rattle.sheet.specs.Laws.Outcomes.{same-result}
@@ -24,16 +24,16 @@ use Rattle.kernel.specs.Order.{valueAt}
 use Rattle.kernel.specs.Equality.{sameDatum, sameValue, sameValues}
 use Rattle.sheet.specs.Lists.{among, allAmong}
 use Rattle.sheet.specs.Reads.{wiresRead}
-use Rattle.kernel.specs.Instant.{value, kept, stored}
+use Rattle.kernel.specs.Instant.{value, resting, stored}
 use Rattle.kernel.specs.Waits.{wiresAwaited, waitsFor, lowestWaiting}
 use Rattle.kernel.specs.Systems as System
 use Rattle.kernel.specs.Systems.{Full}
-use Rattle.kernel.specs.Instants.{readsAt, valueOfWire, values, storedCells, round, rounds, finished, nextMemory, outputRow}
+use Rattle.kernel.specs.Instants.{readsAt, valueOfWire, values, storedCells, lastsFrom, round, rounds, finished, nextMemory, outputRow}
 use Rattle.kernel.specs.Schedules.{entryAt, notNew, tooEarly, scheduleOf, passFrom, pass}
 use Rattle.kernel.specs.Depths.{deepest, depthWithin, depthOf, wiresBelow, greatestDepth}
 use Rattle.kernel.specs.Calls.{Given, givenOf, anyUnknown, placeOfLoop, acceptedOf, inRounds, scheduled, scheduledAnswer}
 use Rattle.kernel.specs.Calls.{roundsCall, scheduledCall}
-use Rattle.kernel.specs.Cases.{sameBytes, all, agrees, holdsFrom, holds, crossedSheet, table}
+use Rattle.kernel.specs.Cases.{sameBytes, all, agrees, holdsFrom, holds, crossedSheet, table, memoryAfter, leaves, cellTable}
 use Rattle.kernel.specs.Laws.Order.{not-known}
 use Rattle.kernel.specs.Laws.Given.{given-by}
 use Rattle.kernel.specs.Laws.Schedules.{Passed, schedule-passed, pass-full-of, pass-finished}
@@ -44,15 +44,25 @@ use Rattle.kernel.specs.declared.Scheduled.the-variants.{Refused}
 
 pub table-holds : all holds table ≡ true
 unfolding settled equals cellForms cellCount meaningOf operandsOf lowest
-    readEach namesOf bodyFrom ownOf readExpression fieldOf bytesOf sectionOf formsOf outputsFrom wiresFrom readSheet sheetOf
-    memoryBytes invalidAt cellsFrom memoryOf startMemory startOutcome startCall rowBytes wrongAt dataFrom inputsOf
-    sameDatum sameValue sameValues among allAmong wiresRead value kept stored
+    readEach namesOf bodyFrom ownOf readExpression fieldOf bytesOf sectionOf formsOf keptCount readWires outputsFrom wiresFrom readSheet
+    sheetOf memoryBytes invalidAt cellsFrom memoryOf startMemory startOutcome startCall rowBytes wrongAt dataFrom inputsOf
+    sameDatum sameValue sameValues among allAmong wiresRead value resting stored
     System.after System.unchanged System.rounds System.finished
-    readsAt valueOfWire values storedCells round rounds finished nextMemory outputRow
+    readsAt valueOfWire values storedCells lastsFrom round rounds finished nextMemory outputRow
     through lowestLoop wiresAwaited waitsFor lowestWaiting
     notNew tooEarly scheduleOf passFrom pass givenOf anyUnknown placeOfLoop acceptedOf inRounds scheduled roundsCall scheduledCall
     deepest depthWithin depthOf wiresBelow greatestDepth sameBytes all agrees holdsFrom holds table
 table-holds = refl
+
+pub cells-left : all leaves cellTable ≡ true
+unfolding settled cellForms cellCount meaningOf operandsOf lowest
+    readEach namesOf bodyFrom ownOf readExpression fieldOf bytesOf sectionOf formsOf keptCount readWires outputsFrom wiresFrom readSheet
+    sheetOf memoryBytes invalidAt cellsFrom memoryOf startMemory startOutcome startCall rowBytes wrongAt dataFrom inputsOf
+    sameDatum sameValue sameValues wiresRead value resting stored
+    System.after System.unchanged System.rounds System.finished
+    values storedCells lastsFrom round rounds finished nextMemory outputRow givenOf anyUnknown acceptedOf inRounds roundsCall
+    sameBytes all memoryAfter leaves cellTable
+cells-left = refl
 
 -- Case L: no list passes. Passing goes by reads alone. With `if` for `present` the sheet has the same reads, so that a list
 -- that passes would make all its wires known; yet they stay unknown.
@@ -72,7 +82,7 @@ crossed choice = record {
 
 crossed-read : sheetOf (crossedSheet 13) ≡ result (crossed present)
 unfolding meaningOf operandsOf readEach namesOf bodyFrom ownOf readExpression fieldOf bytesOf sectionOf
-    outputsFrom wiresFrom readSheet sheetOf
+    keptCount readWires outputsFrom wiresFrom readSheet sheetOf
 crossed-read = refl
 
 crossed-reads : (w : ℕ) → readsAt (crossed present .expressions) w ≡ readsAt (crossed conditional .expressions) w

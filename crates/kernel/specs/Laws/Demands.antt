@@ -15,8 +15,8 @@ use Rattle.sheet.specs.declared.Refusal.the-variants.{StaysUnknown}
 use Rattle.kernel.specs.Values.{isUnknown, IsKnown, known}
 use Rattle.kernel.specs.Order.{_⊑*_, valueAt}
 use Rattle.kernel.specs.Systems.{Full, Solution, LeastSolution}
-use Rattle.kernel.specs.Instant.{Environment, under}
-use Rattle.kernel.specs.Instants.{wireCount, round, rounds, finished, nextMemory, outputRow}
+use Rattle.kernel.specs.Instant.{Environment}
+use Rattle.kernel.specs.Instants.{wireCount, under, round, rounds, finished, nextMemory, outputRow}
 use Rattle.kernel.specs.Schedules.{IsSchedule, pass}
 use Rattle.kernel.specs.Calls.{Given, givenOf, anyUnknown, placeOfLoop, Accepted, acceptedOf, inRounds, scheduled, roundsCall, scheduledCall}
 use Rattle.sheet.specs.Laws.Lists.{never}
@@ -82,7 +82,7 @@ module _ (given : Given) where
   givenRound = round (given .sheet) (given .inputs) (given .memory)
 
   abbrev pub givenUnder : List Value → Environment
-  givenUnder = under (given .inputs) (given .memory)
+  givenUnder = under (given .sheet) (given .inputs) (given .memory)
 
   abbrev pub givenFinished : List Value
   givenFinished = finished (given .sheet) (given .inputs) (given .memory)

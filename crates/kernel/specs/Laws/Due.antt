@@ -13,8 +13,8 @@ use Rattle.sheet.specs.Laws.Lists.{every}
 use Rattle.sheet.specs.declared.Cell.{Cell}
 use Rattle.sheet.specs.declared.Datum.{Datum}
 use Rattle.kernel.specs.Order.{_⊑_, unknown, same, _⊑*_, valueAt}
-use Rattle.kernel.specs.Instant.{under, inputAt}
-use Rattle.kernel.specs.Instants.{readsAt, round}
+use Rattle.kernel.specs.Instant.{inputAt}
+use Rattle.kernel.specs.Instants.{readsAt, under, round}
 use Rattle.kernel.specs.Laws.Agreement.{equality-respected}
 use Rattle.kernel.specs.Laws.Instants.{AgreeOn, wire-related, round-at}
 use Rattle.kernel.specs.declared.Value.{Value}
@@ -26,14 +26,19 @@ each-among [] h = none
 each-among (x ∷ xs) h = h x (rw (eq-eqb x x refl)) and each-among xs (λ y m. h y (rw m (or-true (eqb y x))))
 
 -- two lists of values that agree on what a wire's expression reads agree on all that its value goes by
-agree-on : (inputs : List Datum) (memory : List Cell) (xs ys : List Value) (es : List Expression) (k w : ℕ)
+agree-on : (sheet : Sheet) (inputs : List Datum) (memory : List Cell) (xs ys : List Value) (es : List Expression) (k w : ℕ)
     → Every (λ x. valueAt xs x ≡ valueAt ys x) (readsAt es w)
-    → AgreeOn _≡_ equality-respected (under inputs memory xs) (under inputs memory ys) es k w
+    → AgreeOn _≡_ equality-respected (under sheet inputs memory xs) (under sheet inputs memory ys) es k w
 unfolding AgreeOn readsAt
-agree-on inputs memory xs ys [] k w h = tt
-agree-on inputs memory xs ys (e ∷ es) k zero h =
-    record { onWires = h; onInputs = every (λ i. inputAt inputs i ≡ inputAt inputs i) (λ i. refl) (inputsRead e); onCells = λ j l m. refl }
-agree-on inputs memory xs ys (e ∷ es) k (suc w) h = agree-on inputs memory xs ys es (k + cellCount e) w h
+agree-on sheet inputs memory xs ys [] k w h = tt
+agree-on sheet inputs memory xs ys (e ∷ es) k zero h =
+    record {
+      onWires = h;
+      onInputs = every (λ i. inputAt inputs i ≡ inputAt inputs i) (λ i. refl) (inputsRead e);
+      onLasts = refl;
+      onCells = λ j l m. refl;
+    }
+agree-on sheet inputs memory xs ys (e ∷ es) k (suc w) h = agree-on sheet inputs memory xs ys es (k + cellCount e) w h
 
 module _ (sheet : Sheet) (inputs : List Datum) (memory : List Cell) where
   -- a wire keeps its value where the wires that it reads do
@@ -41,8 +46,8 @@ module _ (sheet : Sheet) (inputs : List Datum) (memory : List Cell) where
       → valueAt (round sheet inputs memory xs) w ≡ valueAt (round sheet inputs memory ys) w
   round-depends xs ys w h =
       round-at sheet inputs memory xs w
-      ∙ wire-related _≡_ equality-respected (under inputs memory xs) (under inputs memory ys) (sheet .expressions) 0 w
-      (agree-on inputs memory xs ys (sheet .expressions) 0 w h)
+      ∙ wire-related _≡_ equality-respected (under sheet inputs memory xs) (under sheet inputs memory ys) (sheet .expressions) 0 w
+      (agree-on sheet inputs memory xs ys (sheet .expressions) 0 w h)
       ∙ sym (round-at sheet inputs memory ys w)
 
   -- after a round that made the values grow, a wire that is unknown and reads none of those which became known stays unknown in the next

@@ -10,13 +10,13 @@ use lib.ListN.{length, take, length-append}
 use Rattle.kernel.specs.Values.{IsKnown}
 use Rattle.kernel.specs.Order.{_⊑_, unknown, _⊑*_, valueAt}
 use Rattle.sheet.specs.Lists.{Every}
-use Rattle.kernel.specs.Instant.{Environment, under, value}
+use Rattle.kernel.specs.Instant.{Environment, value}
 use Rattle.sheet.specs.Expressions.{Expression, cellForms, cellCount}
 use Rattle.sheet.specs.Sheets.{Sheet, formsOf, expressionAt, cellsBefore}
 use Rattle.sheet.specs.Laws.Readings.{forms-length}
 use Rattle.sheet.specs.declared.Cell.{Cell}
 use Rattle.sheet.specs.Reads.{wiresRead, inputsRead}
-use Rattle.kernel.specs.Instants.{wireCount, readsAt, valueOfWire, values, round}
+use Rattle.kernel.specs.Instants.{wireCount, readsAt, valueOfWire, values, under, round}
 use Rattle.kernel.specs.Systems.{Monotone}
 use Rattle.kernel.specs.Laws.Agreement.{Agree, Respected, related, value-grows}
 use Rattle.kernel.specs.Laws.Knowing.{value-known}
@@ -58,12 +58,12 @@ module _ (now : Environment) where
   wire-known (e ∷ es) k zero l h = value-known now e false k h
   wire-known (e ∷ es) k (suc w) l h = wire-known es (k + cellCount e) w (omega arith) h
 
-pub wire-grows : (s t : Environment) → s .inputs ≡ t .inputs → s .memory ≡ t .memory → s .wires ⊑* t .wires
+pub wire-grows : (s t : Environment) → s .inputs ≡ t .inputs → s .lasts ≡ t .lasts → s .memory ≡ t .memory → s .wires ⊑* t .wires
     → (es : List Expression) (k w : ℕ) → valueOfWire s es k w ⊑ valueOfWire t es k w
 unfolding valueOfWire
-wire-grows s t i m h [] k w = unknown
-wire-grows s t i m h (e ∷ es) k zero = value-grows s t i m h e false k
-wire-grows s t i m h (e ∷ es) k (suc w) = wire-grows s t i m h es (k + cellCount e) w
+wire-grows s t i n m h [] k w = unknown
+wire-grows s t i n m h (e ∷ es) k zero = value-grows s t i n m h e false k
+wire-grows s t i n m h (e ∷ es) k (suc w) = wire-grows s t i n m h es (k + cellCount e) w
 
 -- two environments agree on what the wire's expression wiresRead, names and owns
 module _ (R : Value → Value → Type 0) (respected : Respected R) (s t : Environment) where
@@ -82,19 +82,19 @@ module _ (R : Value → Value → Type 0) (respected : Respected R) (s t : Envir
 -- The whole sheet.
 module _ (sheet : Sheet) (inputs : List Datum) (memory : List Cell) where
   pub round-at : (xs : List Value) (w : ℕ)
-      → valueAt (round sheet inputs memory xs) w ≡ valueOfWire (under inputs memory xs) (sheet .expressions) 0 w
+      → valueAt (round sheet inputs memory xs) w ≡ valueOfWire (under sheet inputs memory xs) (sheet .expressions) 0 w
   unfolding round
-  round-at xs w = values-at (under inputs memory xs) (sheet .expressions) 0 w
+  round-at xs w = values-at (under sheet inputs memory xs) (sheet .expressions) 0 w
 
   pub round-monotone : Monotone (wireCount sheet) (round sheet inputs memory)
   unfolding round
-  round-monotone = record { sized = λ xs. values-length (under inputs memory xs) (sheet .expressions) 0; grows = grows }
+  round-monotone = record { sized = λ xs. values-length (under sheet inputs memory xs) (sheet .expressions) 0; grows = grows }
     where
       grows : (xs ys : List Value) → xs ⊑* ys → round sheet inputs memory xs ⊑* round sheet inputs memory ys
       grows xs ys h =
-          let wire = wire-grows (under inputs memory xs) (under inputs memory ys) refl refl h (sheet .expressions) 0 in
+          let wire = wire-grows (under sheet inputs memory xs) (under sheet inputs memory ys) refl refl refl h (sheet .expressions) 0 in
           record { at = λ w. rw (round-at xs w, round-at ys w) (wire w) }
 
   pub round-known : (w : ℕ) → w < wireCount sheet → (xs : List Value)
       → Every (λ x. IsKnown (valueAt xs x)) (readsAt (sheet .expressions) w) → IsKnown (valueAt (round sheet inputs memory xs) w)
-  round-known w l xs h = rw (round-at xs w) (wire-known (under inputs memory xs) (sheet .expressions) 0 w l h)
+  round-known w l xs h = rw (round-at xs w) (wire-known (under sheet inputs memory xs) (sheet .expressions) 0 w l h)

@@ -5,7 +5,7 @@ use mathlib.Core.List.{_++_}
 use Rattle.kernel.specs.Values.{truth, whenKnown, IsKnown, known}
 use Rattle.kernel.specs.Order.{valueAt}
 use Rattle.sheet.specs.Lists.{Every}
-use Rattle.sheet.specs.Expressions.{Expression, constant, wire, input, unary, binary, choose, reset, pre, fby}
+use Rattle.sheet.specs.Expressions.{Expression, constant, wire, input, last, unary, binary, choose, reset, pre, fby, kept}
 use Rattle.sheet.specs.Expressions.{Choice, conditional, present}
 use Rattle.sheet.specs.Expressions.{cellCount}
 use Rattle.sheet.specs.declared.Cell.{Cell}
@@ -35,6 +35,7 @@ module _ (now : Environment) where
   value-known (constant d) fresh k h = known
   value-known (wire w) fresh k h = only h
   value-known (input i) fresh k h = known
+  value-known (last w) fresh k h = known
   value-known (unary o a) fresh k h = strict-known (value-known a fresh k h) (λ x. known)
   value-known (binary o a b) fresh k h =
       let (p, q) = every-append (wiresRead a) (wiresRead b) h in
@@ -49,3 +50,4 @@ module _ (now : Environment) where
       strict-known (value-known c fresh k o) (λ x. value-known a (truth x || fresh) (k + cellCount c) p)
   value-known (pre d a) fresh k h = known
   value-known (fby t a b) fresh k h = cell-known (cond fresh NotStarted (cellAt (now .memory) k)) (value-known a fresh (suc k) h)
+  value-known (kept t a) fresh k h = value-known a fresh (suc k) h

@@ -19,21 +19,23 @@ use Rattle.sheet.specs.declared.Datum.{Datum}
 use Rattle.sheet.specs.declared.Cell.{Cell}
 use Rattle.kernel.specs.Values.{datumIn, IsKnown, known, Has, has, Fits, unknown-fits, known-fits}
 use Rattle.kernel.specs.Order.{valueAt}
-use Rattle.kernel.specs.Instant.{Environment, under}
+use Rattle.kernel.specs.Instant.{Environment}
 use Rattle.kernel.specs.Systems as System
 use Rattle.kernel.specs.Systems.{Full}
-use Rattle.kernel.specs.Instants.{wireCount, values, storedCells, round, finished, nextMemory, outputRow}
+use Rattle.kernel.specs.Instants.{wireCount, values, storedCells, lastsOf, under, round, finished, nextMemory, outputRow}
 use Rattle.kernel.specs.Calls.{Given, givenOf}
 use Rattle.sheet.specs.Laws.Lists.{never}
 use Rattle.kernel.specs.Laws.Order.{unknown-at}
 use Rattle.kernel.specs.Laws.Given.{given-by}
 use Rattle.kernel.specs.Laws.Typing.{OnWires, ValidFrom, parts, valid-from-start, Inherited, fits-inherited, value-typed}
+use Rattle.kernel.specs.Laws.Lasts.{lasts-typed}
 use Rattle.kernel.specs.Laws.Storing.{datum-type, stored-valid}
 use Rattle.kernel.specs.declared.Value.{Value}
 
 module _ (P : ValueType → Value → Type 0) (inherited : Inherited P)
     (inputTypes wireTypes : List ValueType) (now : Environment)
-    (onInputs : ValidRow inputTypes (now .inputs)) (onWires : OnWires P wireTypes (now .wires)) where
+    (onInputs : ValidRow inputTypes (now .inputs)) (onLasts : ValidRow wireTypes (now .lasts))
+    (onWires : OnWires P wireTypes (now .wires)) where
   pub wires-typed : {ts : List ValueType} {es : List Expression} (k : ℕ)
       → HaveTypes inputTypes wireTypes ts es → ValidFrom (now .memory) (formsOf es) k
       → OnWires P ts (values now es k)
@@ -42,12 +44,13 @@ module _ (P : ValueType → Value → Type 0) (inherited : Inherited P)
   wires-typed k (_then_ {x = u} {y = a} {ys = es} h hs) m zero t e =
       let s : t ≡ u = cc in
       let cells = (parts (now .memory) a (formsOf es) k m) .0 in
-      rw s (value-typed P inherited inputTypes wireTypes now onInputs onWires u a false k h cells)
+      rw s (value-typed P inherited inputTypes wireTypes now onInputs onLasts onWires u a false k h cells)
   wires-typed k (_then_ {y = a} {ys = es} h hs) m (suc w) t e =
       wires-typed (k + cellCount a) hs ((parts (now .memory) a (formsOf es) k m) .1) w t e
 
 module _ (inputTypes wireTypes : List ValueType) (now : Environment)
-    (onInputs : ValidRow inputTypes (now .inputs)) (onWires : OnWires Has wireTypes (now .wires)) where
+    (onInputs : ValidRow inputTypes (now .inputs)) (onLasts : ValidRow wireTypes (now .lasts))
+    (onWires : OnWires Has wireTypes (now .wires)) where
   pub cells-valid : {ts : List ValueType} {es : List Expression} (k : ℕ)
       → HaveTypes inputTypes wireTypes ts es → ValidFrom (now .memory) (formsOf es) k
       → ValidCells (formsOf es) (storedCells now es k)
@@ -55,7 +58,7 @@ module _ (inputTypes wireTypes : List ValueType) (now : Environment)
   cells-valid k done m = done
   cells-valid k (_then_ {x = u} {y = a} {ys = es} h hs) m =
       let (m₁, m₂) = parts (now .memory) a (formsOf es) k m in
-      pairwise-append (stored-valid inputTypes wireTypes now onInputs onWires u a false k h m₁)
+      pairwise-append (stored-valid inputTypes wireTypes now onInputs onLasts onWires u a false k h m₁)
       (cells-valid (k + cellCount a) hs m₂)
 
 has-both : {t : ValueType} {v : Value} → IsKnown v → Fits t v → Has t v
@@ -68,12 +71,16 @@ typed-range (u ∷ ts) (suc w) e = omega (arith, typed-range ts w e)
 
 module _ (sheet : Sheet) (inputs : List Datum) (memory : List Cell)
     (wellTyped : WellTyped sheet) (validInputs : ValidInputs sheet inputs) (validMemory : ValidMemory sheet memory) where
+  -- what kind 18 gives is of its wire's type
+  pub lasts-valid : ValidRow (sheet .wireTypes) (lastsOf sheet memory)
+  lasts-valid = lasts-typed (sheet .inputTypes) (sheet .wireTypes) memory 0 wellTyped (valid-from-start validMemory)
+
   -- a round keeps types
   pub round-typed : (P : ValueType → Value → Type 0) → Inherited P → (xs : List Value) → OnWires P (sheet .wireTypes) xs
       → OnWires P (sheet .wireTypes) (round sheet inputs memory xs)
   unfolding round
   round-typed P inherited xs h =
-      wires-typed P inherited (sheet .inputTypes) (sheet .wireTypes) (under inputs memory xs) validInputs h 0 wellTyped
+      wires-typed P inherited (sheet .inputTypes) (sheet .wireTypes) (under sheet inputs memory xs) validInputs lasts-valid h 0 wellTyped
       (valid-from-start validMemory)
 
   pub after-typed : (k : ℕ) → OnWires Fits (sheet .wireTypes) (System.after (wireCount sheet) (round sheet inputs memory) k)
@@ -98,8 +105,8 @@ module _ (sheet : Sheet) (inputs : List Datum) (memory : List Cell)
       → ValidMemory sheet (nextMemory sheet inputs memory (finished sheet inputs memory))
   unfolding nextMemory
   next-memory-valid full =
-      cells-valid (sheet .inputTypes) (sheet .wireTypes) (under inputs memory (finished sheet inputs memory)) validInputs
-      (finished-has full) 0 wellTyped (valid-from-start validMemory)
+      cells-valid (sheet .inputTypes) (sheet .wireTypes) (under sheet inputs memory (finished sheet inputs memory)) validInputs
+      lasts-valid (finished-has full) 0 wellTyped (valid-from-start validMemory)
 
   -- what is written of it passes 12 and 13 again and reads back as itself
   pub next-memory-back : Full (wireCount sheet) (finished sheet inputs memory)

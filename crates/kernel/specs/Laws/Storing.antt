@@ -6,7 +6,7 @@ use mathlib.Core.List.{List, [], _∷_, _++_}
 use lib.ListN.{length, take, drop}
 use lib.Seq.{drop-cons}
 use Rattle.sheet.specs.Data.{ValueType, boolean, IsOf}
-use Rattle.sheet.specs.Expressions.{Expression, constant, wire, input, unary, binary, choose, reset, pre, fby}
+use Rattle.sheet.specs.Expressions.{Expression, constant, wire, input, last, unary, binary, choose, reset, pre, fby, kept}
 use Rattle.sheet.specs.Expressions.{CellForm, cellForms, cellCount}
 use Rattle.sheet.specs.Typing.{done, _then_, unaryType, operandType, HasType, ValidCells, ValidRow}
 use Rattle.sheet.specs.Laws.Readings.{forms-length}
@@ -15,7 +15,7 @@ use Rattle.sheet.specs.Laws.Memory.{pairwise-append, start-valid}
 use Rattle.sheet.specs.declared.Cell.{Cell}
 use Rattle.sheet.specs.declared.Cell.the-variants.{NotStarted}
 use Rattle.kernel.specs.Values.{isTrue, datumIn, Has, has}
-use Rattle.kernel.specs.Instant.{Environment, runs, value, kept, stored}
+use Rattle.kernel.specs.Instant.{Environment, runs, value, resting, stored}
 use Rattle.kernel.specs.Laws.Typing.{OnWires, ValidFrom, parts, has-inherited, value-typed}
 use Rattle.kernel.specs.declared.Value.{Value}
 
@@ -34,17 +34,18 @@ picked true p q = p
 picked false p q = q
 
 module _ (inputTypes wireTypes : List ValueType) (now : Environment)
-    (onInputs : ValidRow inputTypes (now .inputs)) (onWires : OnWires Has wireTypes (now .wires)) where
+    (onInputs : ValidRow inputTypes (now .inputs)) (onLasts : ValidRow wireTypes (now .lasts))
+    (onWires : OnWires Has wireTypes (now .wires)) where
   has-value : (t : ValueType) (e : Expression) (fresh : Bool) (k : ℕ)
       → HasType inputTypes wireTypes t e → ValidFrom (now .memory) (cellForms e) k → Has t (value now fresh e k)
-  has-value = value-typed Has has-inherited inputTypes wireTypes now onInputs onWires
+  has-value = value-typed Has has-inherited inputTypes wireTypes now onInputs onLasts onWires
 
-  kept-valid : (t : ValueType) (e : Expression) (fresh : Bool) (k : ℕ)
+  resting-valid : (t : ValueType) (e : Expression) (fresh : Bool) (k : ℕ)
       → HasType inputTypes wireTypes t e → ValidFrom (now .memory) (cellForms e) k
-      → ValidCells (cellForms e) (kept now fresh e k)
-  unfolding kept
-  kept-valid t e true k h m = start-valid inputTypes wireTypes t e h
-  kept-valid t e false k h m = rw (forms-length e) at (slice-valid (now .memory) (cellForms e) k m)
+      → ValidCells (cellForms e) (resting now fresh e k)
+  unfolding resting
+  resting-valid t e true k h m = start-valid inputTypes wireTypes t e h
+  resting-valid t e false k h m = rw (forms-length e) at (slice-valid (now .memory) (cellForms e) k m)
 
   pub stored-valid : (t : ValueType) (e : Expression) (fresh : Bool) (k : ℕ)
       → HasType inputTypes wireTypes t e → ValidFrom (now .memory) (cellForms e) k
@@ -53,6 +54,7 @@ module _ (inputTypes wireTypes : List ValueType) (now : Environment)
   stored-valid t (constant d) fresh k h m = done
   stored-valid t (wire w) fresh k h m = done
   stored-valid t (input i) fresh k h m = done
+  stored-valid t (last w) fresh k h m = done
   stored-valid t (unary o a) fresh k h m = stored-valid (unaryType o) a fresh k (h .1) m
   stored-valid t (binary o a b) fresh k h m =
       let (m₁, m₂) = parts (now .memory) a (cellForms b) k m in
@@ -65,9 +67,9 @@ module _ (inputTypes wireTypes : List ValueType) (now : Environment)
       pairwise-append (stored-valid boolean c fresh k (h .0) m₁)
       (pairwise-append
       (picked (runs o condition true) (stored-valid t a fresh (k + cellCount c) (h .1) m₂)
-      (kept-valid t a fresh (k + cellCount c) (h .1) m₂))
+      (resting-valid t a fresh (k + cellCount c) (h .1) m₂))
       (picked (runs o condition false) (stored-valid t b fresh (k + cellCount c + cellCount a) (h .2) m₃)
-      (kept-valid t b fresh (k + cellCount c + cellCount a) (h .2) m₃)))
+      (resting-valid t b fresh (k + cellCount c + cellCount a) (h .2) m₃)))
   stored-valid t (reset c a) fresh k h m =
       let (m₁, m₂) = parts (now .memory) c (cellForms a) k m in
       pairwise-append (stored-valid boolean c fresh k (h .0) m₁)
@@ -81,3 +83,6 @@ module _ (inputTypes wireTypes : List ValueType) (now : Environment)
       let held = datum-type (has-value t b fresh (suc k + cellCount a) (h .2) m₂) in
       subst (λ x. IsOf x (datumIn (value now fresh b (suc k + cellCount a)))) (sym (h .0)) held
       then pairwise-append (stored-valid t a fresh (suc k) (h .1) m₁) (stored-valid t b fresh (suc k + cellCount a) (h .2) m₂)
+  stored-valid t (kept u a) fresh k h m =
+      let held = datum-type (has-value t a fresh (suc k) (h .1) (m .2)) in
+      subst (λ x. IsOf x (datumIn (value now fresh a (suc k)))) (sym (h .0)) held then stored-valid t a fresh (suc k) (h .1) (m .2)

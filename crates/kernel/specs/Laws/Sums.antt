@@ -10,31 +10,32 @@ use lib.IntN.{ℤ, negℤ, _+ℤ_, _-ℤ_}
 use lib.ListN.{length}
 use Rattle.numbers.specs.Laws.Nearest.{Nearest, settled-nearest}
 use Rattle.sheet.specs.Data.{ValueType, number}
-use Rattle.sheet.specs.Expressions.{Expression, unary, binary, negative, sum, difference, cellForms, cellCount}
+use Rattle.sheet.specs.Expressions.{Expression, unary, binary, kept, negative, sum, difference, cellForms, cellCount}
 use Rattle.sheet.specs.Sheets.{formsOf, expressionAt, cellsBefore}
 use Rattle.sheet.specs.Typing.{done, _then_, HasType, HaveTypes, ValidRow}
 use Rattle.sheet.specs.declared.Cell.{Cell}
 use Rattle.sheet.specs.declared.Datum.the-variants.{Boolean, Number}
 use Rattle.kernel.specs.Values.{Has, has}
 use Rattle.kernel.specs.Order.{valueAt}
-use Rattle.kernel.specs.Instant.{Environment, under, value}
+use Rattle.kernel.specs.Instant.{Environment, value}
 use Rattle.kernel.specs.Systems.{Full, Solution}
-use Rattle.kernel.specs.Instants.{wireCount, finished}
+use Rattle.kernel.specs.Instants.{wireCount, under, finished}
 use Rattle.kernel.specs.Calls.{roundsCall}
 use Rattle.kernel.specs.Laws.Instants.{behind-first, value-of-wire, round-at}
 use Rattle.kernel.specs.Laws.Typing.{OnWires, ValidFrom, parts, valid-from-start, has-inherited, value-typed}
 use Rattle.kernel.specs.Laws.Solutions.{finished-solution}
-use Rattle.kernel.specs.Laws.Memory.{finished-has, given-valid}
+use Rattle.kernel.specs.Laws.Memory.{lasts-valid, finished-has, given-valid}
 use Rattle.kernel.specs.Laws.Answers.{AcceptedAfter, demand2-answered}
 use Rattle.kernel.specs.declared.Value.{Value}
 use Rattle.kernel.specs.declared.Value.the-variants.{Known}
 use Rattle.kernel.specs.declared.InRounds.the-variants.{Accepted}
 
--- the expressions that the request speaks of
+-- the expressions that the request speaks of, also as those of a kept wire
 pub data Sums : Expression → Type 0 where
   adds : {e f : Expression} → Sums (binary sum e f)
   subtracts : {e f : Expression} → Sums (binary difference e f)
   negates : {e : Expression} → Sums (unary negative e)
+  keeps : {t : ValueType} {e : Expression} → Sums e → Sums (kept t e)
 
 -- two operands have the numbers a and b; the first one's cells are those from number k on, the second one's come behind them
 pub record Operands (now : Environment) (fresh : Bool) (k : ℕ) (e f : Expression) (a b : ℤ) : Type 0 where
@@ -42,10 +43,11 @@ pub record Operands (now : Environment) (fresh : Bool) (k : ℕ) (e f : Expressi
   pub right : value now fresh f (k + cellCount e) ≡ Known (Number b)
 
 -- z is the exact result of such an expression
-pub data Exact (now : Environment) (fresh : Bool) (k : ℕ) : Expression → ℤ → Type 0 where
-  added : {e f : Expression} {a b : ℤ} → Operands now fresh k e f a b → Exact now fresh k (binary sum e f) (a +ℤ b)
-  subtracted : {e f : Expression} {a b : ℤ} → Operands now fresh k e f a b → Exact now fresh k (binary difference e f) (a -ℤ b)
-  negated : {e : Expression} {a : ℤ} → value now fresh e k ≡ Known (Number a) → Exact now fresh k (unary negative e) (negℤ a)
+pub data Exact (now : Environment) (fresh : Bool) : ℕ → Expression → ℤ → Type 0 where
+  added : {k : ℕ} {e f : Expression} {a b : ℤ} → Operands now fresh k e f a b → Exact now fresh k (binary sum e f) (a +ℤ b)
+  subtracted : {k : ℕ} {e f : Expression} {a b : ℤ} → Operands now fresh k e f a b → Exact now fresh k (binary difference e f) (a -ℤ b)
+  negated : {k : ℕ} {e : Expression} {a : ℤ} → value now fresh e k ≡ Known (Number a) → Exact now fresh k (unary negative e) (negℤ a)
+  kept-exact : {k : ℕ} {t : ValueType} {e : Expression} {z : ℤ} → Exact now fresh (suc k) e z → Exact now fresh k (kept t e) z
 
 -- the value is a number, the nearest of 32 bits to z
 pub data Stops (z : ℤ) : Value → Type 0 where
@@ -57,6 +59,7 @@ unfolding value
 exact-stops (added {a = a} {b = b} o) = rw (o .left, o .right) (stops (settled-nearest (a +ℤ b)))
 exact-stops (subtracted {a = a} {b = b} o) = rw (o .left, o .right) (stops (settled-nearest (a -ℤ b)))
 exact-stops (negated {a = a} p) = rw p (stops (settled-nearest (negℤ a)))
+exact-stops (kept-exact x) = exact-stops x
 
 -- There is an exact result where the wires have values of their types and the cells are valid.
 a-number : {v : Value} → Has number v → (a : ℤ) × (v ≡ Known (Number a))
@@ -64,11 +67,12 @@ a-number (has {d = Boolean b} e) = absurd e
 a-number (has {d = Number a} e) = (a, refl)
 
 module _ (inputTypes wireTypes : List ValueType) (now : Environment)
-    (onInputs : ValidRow inputTypes (now .inputs)) (onWires : OnWires Has wireTypes (now .wires)) where
+    (onInputs : ValidRow inputTypes (now .inputs)) (onLasts : ValidRow wireTypes (now .lasts))
+    (onWires : OnWires Has wireTypes (now .wires)) where
   number-of : (e : Expression) (fresh : Bool) (k : ℕ) → HasType inputTypes wireTypes number e
       → ValidFrom (now .memory) (cellForms e) k → (a : ℤ) × (value now fresh e k ≡ Known (Number a))
   number-of e fresh k typed cells =
-      a-number (value-typed Has has-inherited inputTypes wireTypes now onInputs onWires number e fresh k typed cells)
+      a-number (value-typed Has has-inherited inputTypes wireTypes now onInputs onLasts onWires number e fresh k typed cells)
 
   numbers-of : (e f : Expression) (fresh : Bool) (k : ℕ) → HasType inputTypes wireTypes number e → HasType inputTypes wireTypes number f
       → ValidFrom (now .memory) (cellForms e ++ cellForms f) k → (a : ℤ) × (b : ℤ) × Operands now fresh k e f a b
@@ -80,12 +84,14 @@ module _ (inputTypes wireTypes : List ValueType) (now : Environment)
 
   exact-of : {e : Expression} → Sums e → (fresh : Bool) (k : ℕ) (t : ValueType) → HasType inputTypes wireTypes t e
       → ValidFrom (now .memory) (cellForms e) k → (z : ℤ) × Exact now fresh k e z
-  unfolding HasType cellForms
+  unfolding HasType cellForms ValidFrom
   exact-of (adds {e} {f}) fresh k t typed cells =
       let (a, b, o) = numbers-of e f fresh k (typed .1) (typed .2) cells in (a +ℤ b, added o)
   exact-of (subtracts {e} {f}) fresh k t typed cells =
       let (a, b, o) = numbers-of e f fresh k (typed .1) (typed .2) cells in (a -ℤ b, subtracted o)
   exact-of (negates {e}) fresh k t typed cells = let (a, p) = number-of e fresh k (typed .1) cells in (negℤ a, negated p)
+  exact-of (keeps sums) fresh k t typed cells =
+      let (z, exact) = exact-of sums fresh (suc k) t (typed .1) (cells .2) in (z, kept-exact exact)
 
 -- the expression of a wire has a type, and its cells are valid
 wire-typed : (inputTypes wireTypes : List ValueType) (memory : List Cell) {ts : List ValueType} {es : List Expression} (k w : ℕ)
@@ -110,7 +116,7 @@ module _ (s memory input output : List ℕ) {r : ℕ} (accepted : roundsCall s m
   equations = solved .given .sheet .expressions
 
   abbrev pub final : Environment
-  final = under (solved .given .inputs) (solved .given .memory) (solved .values)
+  final = under (solved .given .sheet) (solved .given .inputs) (solved .given .memory) (solved .values)
 
   -- each wire has the value of its expression
   pub wire-holds : (w : ℕ) → w < length equations
@@ -134,8 +140,9 @@ module _ (s memory input output : List ℕ) {r : ℕ} (accepted : roundsCall s m
       let full : Full (wireCount sheet) ends = rw same (solved .full) in
       let wires : OnWires Has (sheet .wireTypes) (solved .values) =
       rw same at (finished-has sheet (given .inputs) (given .memory) (valid .sheet) (valid .inputs) (valid .memory) full) in
+      let lasts = lasts-valid sheet (given .inputs) (given .memory) (valid .sheet) (valid .inputs) (valid .memory) in
       let ((t, typed), cells) =
       wire-typed (sheet .inputTypes) (sheet .wireTypes) (given .memory) 0 w (valid .sheet) (valid-from-start (valid .memory)) l in
-      let (z, exact) = exact-of (sheet .inputTypes) (sheet .wireTypes) final (valid .inputs) wires sums false
+      let (z, exact) = exact-of (sheet .inputTypes) (sheet .wireTypes) final (valid .inputs) lasts wires sums false
       (cellsBefore equations w) t typed (rw zero-add at cells) in
       (z, exact, rw (wire-holds w l) (exact-stops exact))

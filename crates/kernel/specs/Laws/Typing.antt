@@ -10,7 +10,7 @@ use lib.IntN.{negℤ, _+ℤ_, _-ℤ_}
 use lib.ListN.{length, getElem?}
 use Rattle.numbers.specs.Laws.Nearest.{settled-fits}
 use Rattle.sheet.specs.Data.{ValueType, boolean, IsOf}
-use Rattle.sheet.specs.Expressions.{Expression, constant, wire, input, unary, binary, choose, reset, pre, fby}
+use Rattle.sheet.specs.Expressions.{Expression, constant, wire, input, last, unary, binary, choose, reset, pre, fby, kept}
 use Rattle.sheet.specs.Expressions.{Unary, negation, negative}
 use Rattle.sheet.specs.Expressions.{Binary, conjunction, disjunction, sum, difference, lessThan, equality}
 use Rattle.sheet.specs.Expressions.{Choice, conditional, present}
@@ -114,7 +114,8 @@ has-inherited = record { datum = has; strict = strict-has }
 
 module _ (P : ValueType → Value → Type 0) (inherited : Inherited P)
     (inputTypes wireTypes : List ValueType) (now : Environment)
-    (onInputs : ValidRow inputTypes (now .inputs)) (onWires : OnWires P wireTypes (now .wires)) where
+    (onInputs : ValidRow inputTypes (now .inputs)) (onLasts : ValidRow wireTypes (now .lasts))
+    (onWires : OnWires P wireTypes (now .wires)) where
   open Inherited inherited using (datum, strict)
 
   chosen-typed : {t : ValueType} (o : Choice) (b : Bool) {u v : Value} → P t u → P t v → P t (chosen o b u v)
@@ -134,6 +135,7 @@ module _ (P : ValueType → Value → Type 0) (inherited : Inherited P)
   value-typed t (constant d) fresh k h m = datum h
   value-typed t (wire w) fresh k h m = onWires w t h
   value-typed t (input i) fresh k h m = datum (input-type onInputs i t h)
+  value-typed t (last w) fresh k h m = datum (input-type onLasts w t h)
   value-typed t (unary o a) fresh k h m =
       strict (value-typed (unaryType o) a fresh k (h .1) m) (λ x p.
       datum (subst (λ u. IsOf u (applyUnary o x)) (h .0) (unary-type o x)))
@@ -156,3 +158,4 @@ module _ (P : ValueType → Value → Type 0) (inherited : Inherited P)
       let left = (parts (now .memory) a (cellForms b) (suc k) (m .2)) .0 in
       let cell = subst (λ x. ValidCell (fbyCell x) (cellAt (now .memory) k)) (h .0) (m .1) in
       from-cell fresh (cellAt (now .memory) k) (value-typed t a fresh (suc k) (h .1) left) cell
+  value-typed t (kept u a) fresh k h m = value-typed t a fresh (suc k) (h .1) (m .2)

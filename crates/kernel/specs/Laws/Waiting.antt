@@ -18,10 +18,10 @@ use Rattle.closure.specs.Closures.{Closure, one, _then_, Tells, LowestLoop}
 use Rattle.closure.specs.Laws.{finds-loop, found-lowest, some-loop}
 use Rattle.kernel.specs.Values.{isUnknown, IsKnown, known}
 use Rattle.kernel.specs.Order.{_⊑_, same, valueAt}
-use Rattle.kernel.specs.Instant.{Environment, under, value}
+use Rattle.kernel.specs.Instant.{Environment, value}
 use Rattle.kernel.specs.Systems as System
 use Rattle.kernel.specs.Systems.{Solution}
-use Rattle.kernel.specs.Instants.{wireCount, readsAt, values, round, finished}
+use Rattle.kernel.specs.Instants.{wireCount, readsAt, values, under, round, finished}
 use Rattle.kernel.specs.Waits.{WorkedOutFrom, WaitsFor, WaitsOn, waitsFor, lowestWaiting}
 use Rattle.kernel.specs.Laws.Order.{unknown-is, not-known, unknown-at}
 use Rattle.kernel.specs.Laws.Reads.{reads-of-tree, reader-below, reads-below}
@@ -112,7 +112,7 @@ module _ (now : Environment) (es : List Expression) where
 -- Under the least solution of a sheet.
 module _ (sheet : Sheet) (inputs : List Datum) (memory : List Cell) where
   abbrev pub finally : Environment
-  finally = under inputs memory (finished sheet inputs memory)
+  finally = under sheet inputs memory (finished sheet inputs memory)
 
   abbrev es : List Expression
   es = sheet .expressions
@@ -133,13 +133,13 @@ module _ (sheet : Sheet) (inputs : List Datum) (memory : List Cell) where
   earlier : (k v w : ℕ) → IsKnown (valueAt (after (suc k)) v) → WorkedOutFrom finally es v w → IsKnown (valueAt (after k) w)
   unfolding System.after
   earlier k v w h a =
-      let before = under inputs memory (after k) in
+      let before = under sheet inputs memory (after k) in
       let grows = below-solutions (wireCount sheet) (round sheet inputs memory) (round-monotone sheet inputs memory)
       (finished sheet inputs memory) (finished-solution sheet inputs memory) k in
       let is : valueAt (after (suc k)) v ≡ value before false (expressionAt es v) (cellsBefore es v) =
       round-at sheet inputs memory (after k) v ∙ (value-of-wire before es 0 v (awaiting-below finally es v w a) ∙ rw zero-add) in
       let worked : IsKnown (value before false (expressionAt es v) (cellsBefore es v)) = rw is at h in
-      let same-wires = awaited-same before finally refl refl grows (expressionAt es v) false (cellsBefore es v) worked in
+      let same-wires = awaited-same before finally refl refl refl grows (expressionAt es v) false (cellsBefore es v) worked in
       every-holds w (known-awaits before (expressionAt es v) false (cellsBefore es v) worked) (rw same-wires a)
 
   falls : (k : ℕ) {v w : ℕ} → IsKnown (valueAt (after (suc k)) v) → Closure (WorkedOutFrom finally es) v w → IsKnown (valueAt (after k) w)

@@ -6,7 +6,7 @@ use mathlib.Core.Bool.{Bool, true, false, _||_, cond, or-true}
 use mathlib.Core.List.{List, [], _∷_, _++_}
 use Rattle.sheet.specs.Lists.{among, Every, none, _and_}
 use Rattle.sheet.specs.Reads.{wiresRead}
-use Rattle.sheet.specs.Expressions.{Expression, constant, wire, input, unary, binary, choose, reset, pre, fby}
+use Rattle.sheet.specs.Expressions.{Expression, constant, wire, input, last, unary, binary, choose, reset, pre, fby, kept}
 use Rattle.sheet.specs.Expressions.{Choice, conditional, present, cellCount}
 use Rattle.sheet.specs.Laws.Lists.{never, every-append, every-join, every-holds, every-among, among-append, among-head, among-each}
 use Rattle.sheet.specs.declared.Datum.{Datum}
@@ -40,7 +40,7 @@ record Carried (R : Value → Value → List ℕ → List ℕ → Type 0) : Type
       → ((d : Datum) → R (f d) (g d) (h d) (i d)) → R (whenKnown u f) (whenKnown v g) (us ++ onceKnown u h) (vs ++ onceKnown v i)
 
 module _ (R : Value → Value → List ℕ → List ℕ → Type 0) (carried : Carried R) (s t : Environment)
-    (inputs : s .inputs ≡ t .inputs) (memory : s .memory ≡ t .memory)
+    (inputs : s .inputs ≡ t .inputs) (lasts : s .lasts ≡ t .lasts) (memory : s .memory ≡ t .memory)
     (wires : (w : ℕ) → R (valueAt (s .wires) w) (valueAt (t .wires) w) (w ∷ []) (w ∷ [])) where
   open Carried carried using (sure, operand, strict, once)
 
@@ -65,6 +65,7 @@ module _ (R : Value → Value → List ℕ → List ℕ → Type 0) (carried : C
   each (constant d) fresh k = sure d
   each (wire w) fresh k = wires w
   each (input i) fresh k = rw inputs (sure (inputAt (t .inputs) i))
+  each (last w) fresh k = rw lasts (sure _)
   each (unary o a) fresh k = operand _ (each a fresh k)
   each (binary o a b) fresh k = strict (each a fresh k) (λ x. operand _ (each b fresh (k + cellCount a)))
   each (choose o c a b) fresh k =
@@ -72,6 +73,7 @@ module _ (R : Value → Value → List ℕ → List ℕ → Type 0) (carried : C
   each (reset c a) fresh k = once (each c fresh k) (λ x. each a (truth x || fresh) (k + cellCount c))
   each (pre d a) fresh k = rw memory (sure _)
   each (fby x a b) fresh k = rw memory (from-cell (cond fresh NotStarted (cellAt (t .memory) k)) (each a fresh (suc k)))
+  each (kept x a) fresh k = each a fresh (suc k)
 
 -- Under the values of one environment.
 module _ (now : Environment) where
@@ -109,7 +111,7 @@ module _ (now : Environment) where
 
   worked-out : (e : Expression) (fresh : Bool) (k : ℕ)
       → WorkedOut (value now fresh e k) (value now fresh e k) (wiresAwaited now fresh e k) (wiresAwaited now fresh e k)
-  worked-out = each WorkedOut worked-carried now now refl refl (λ w. itself w (valueAt (now .wires) w) refl)
+  worked-out = each WorkedOut worked-carried now now refl refl refl (λ w. itself w (valueAt (now .wires) w) refl)
     where
       itself : (w : ℕ) (v : Value) → valueAt (now .wires) w ≡ v → WorkedOut v v (w ∷ []) (w ∷ [])
       itself w Unknown e = one-unknown w (among-head w []) e
@@ -164,6 +166,7 @@ module _ (now : Environment) where
     awaited-within (constant d) fresh k h = none
     awaited-within (wire w) fresh k h = h
     awaited-within (input i) fresh k h = none
+    awaited-within (last w) fresh k h = none
     awaited-within (unary o a) fresh k h = awaited-within a fresh k h
     awaited-within (binary o a b) fresh k h =
         let (p, q) = every-append (wiresRead a) (wiresRead b) h in
@@ -181,6 +184,7 @@ module _ (now : Environment) where
     awaited-within (pre d a) fresh k h = none
     awaited-within (fby t a b) fresh k h =
         left-within (cond fresh NotStarted (cellAt (now .memory) k)) (awaited-within a fresh (suc k) h)
+    awaited-within (kept t a) fresh k h = awaited-within a fresh (suc k) h
 
   -- all that is waited for is read within the instant
   pub awaited-read : (e : Expression) (fresh : Bool) (k : ℕ) → Every (λ w. among w (wiresRead e) ≡ true) (wiresAwaited now fresh e k)
@@ -218,10 +222,10 @@ settles-carried = record { sure = λ d. settled; operand = operand; strict = str
     once (settled {d = d} {ws = us}) later = behind us (later d)
 
 -- where the wires grow, a known expression waits for the same wires
-pub awaited-same : (s t : Environment) → s .inputs ≡ t .inputs → s .memory ≡ t .memory → s .wires ⊑* t .wires
+pub awaited-same : (s t : Environment) → s .inputs ≡ t .inputs → s .lasts ≡ t .lasts → s .memory ≡ t .memory → s .wires ⊑* t .wires
     → (e : Expression) (fresh : Bool) (k : ℕ) → IsKnown (value s fresh e k) → wiresAwaited s fresh e k ≡ wiresAwaited t fresh e k
-awaited-same s t inputs memory grows e fresh k =
-    go (each Settles settles-carried s t inputs memory (λ w. itself w (grows .at w)) e fresh k)
+awaited-same s t inputs lasts memory grows e fresh k =
+    go (each Settles settles-carried s t inputs lasts memory (λ w. itself w (grows .at w)) e fresh k)
   where
     itself : (w : ℕ) {u v : Value} → u ⊑ v → Settles u v (w ∷ []) (w ∷ [])
     itself w unknown = unsettled

@@ -39,11 +39,11 @@ element-copy-out-length-of c = omega (arith, c .before .before .before .before .
 length-of-requires : tie.Need-length-of-requires Inv-loop μ-loop
 length-of-requires c κs = search needs
 
-shared-slice-read-advance-expression : tie.Need-shared-slice-read-advance-expression Inv-loop μ-loop
-shared-slice-read-advance-expression c = omega arith
+shared-slice-read-store-wire : tie.Need-shared-slice-read-store-wire Inv-loop μ-loop
+shared-slice-read-store-wire c = omega arith
 
-advance-expression-requires : tie.Need-advance-expression-requires Inv-loop μ-loop
-advance-expression-requires c κs =
+store-wire-requires : tie.Need-store-wire-requires Inv-loop μ-loop
+store-wire-requires c κs =
     let test = c .before .before .before .before .before .before .before .before in
     let f = c .before .before .before .before .before .before .before .before .before .before .before .before .before .pre in
     ready f (test .before .loop .inv .2 f) (test .loop-test .taken) (c .before .before .before .before .place .ensures)
@@ -63,7 +63,7 @@ loop-again c =
       ⊎-elim (λ w. ap length (w .10) ∙ w .7 .kept .1 .0) (λ w. ap length (w .1)) (c .if1 .came) ∙ l .inv .1,
       λ f.
           ⊎-elim
-          (λ w. rw (w .10) (one-stored f (l .inv .2 f) more (w .2 .ensures) (w .4 .ensures .0) (w .7 .result)
+          (λ w. rw (w .10) (one-stored f (l .inv .2 f) more (w .2 .ensures) (w .4 .ensures .0)
           (w .7 .ensures (ready f (l .inv .2 f) more (w .2 .ensures) (w .4 .ensures .0)))))
           (λ w. rw (w .1) (none-stored f (l .inv .2 f) (c .before .may-own .ensures (w .0 .left))))
           (c .if1 .came),
@@ -88,8 +88,8 @@ store-spec =
     place-requires
     element-copy-out-length-of
     length-of-requires
-    shared-slice-read-advance-expression
-    advance-expression-requires
+    shared-slice-read-store-wire
+    store-wire-requires
     add-w
     loop-less
     loop-again

@@ -6,7 +6,7 @@ use mathlib.Core.Bool.{true, true≢false}
 use native.Mathlib.Omega.{arith}
 use Rattle.wires.specs.Sets.{member, tally}
 use Rattle.wires.specs.Laws.{tally-bound}
-use Rattle.leaves.specs.Words.{inputWords}
+use Rattle.leaves.specs.Words.{fixedWords}
 use Rattle.rounds.specs.Running.{RunningReads}
 use Rattle.readers.proofs.Gathering.{zero-at}
 use Rattle.rounds.proofs.Finishing.{Rounded, unrounded, before-here, more-known, one-more, ended}
@@ -16,7 +16,7 @@ use Rattle.rounds.proofs.finish.Tie as tie
 abbrev Inv-loop : tie.InvT-loop
 Inv-loop sheet memory types places firsts reads words₀ readers known₀ due₀ rounds₀ words known due rounds =
     (rounds ≤ tally (member (known .bits)) 64)
-    × ((run : RunningReads sheet memory (inputWords words₀) types places firsts reads) → Rounded run rounds (known .bits) (due .bits) words)
+    × ((run : RunningReads sheet memory (fixedWords words₀) types places firsts reads) → Rounded run rounds (known .bits) (due .bits) words)
 
 abbrev μ-loop : tie.MeasureT-loop
 μ-loop sheet memory types places firsts reads words₀ readers known₀ due₀ rounds₀ words known due rounds =

@@ -8,7 +8,7 @@ use lib.ListN.{length}
 use borrow.Author.Needs.{needs}
 use Rattle.wires.specs.Sets.{member, EndsAt}
 use Rattle.wires.specs.Laws.{end-falls}
-use Rattle.leaves.specs.Words.{inputWords}
+use Rattle.leaves.specs.Words.{fixedWords}
 use Rattle.rounds.specs.Running.{Before}
 use Rattle.rounds.proofs.Rounding.{Midway, begun, placed, further, round-done}
 use Rattle.rounds.proofs.round.Statement.{statement}
@@ -18,7 +18,7 @@ abbrev Inv-loop : tie.InvT-loop
 Inv-loop sheet memory types places firsts before words₀ grown₀ left₀ end₀ words grown left end =
     EndsAt (member (left .bits)) 64 end
     × ((due : ℕ) → ((k : ℕ) → member (left₀ .bits) k ≡ (member due k && not (member (before .bits) k)))
-    → (b : Before sheet memory (inputWords words₀) types places firsts (before .bits) due words₀)
+    → (b : Before sheet memory (fixedWords words₀) types places firsts (before .bits) due words₀)
     → Midway b (left .bits) (grown .bits) words)
 
 abbrev μ-loop : tie.MeasureT-loop

@@ -1,16 +1,22 @@
 -- What the answer of the check says of a sheet's bytes: the refusal of their reading, or the sheet that they are, by its four counts.
-use Prim.Native.Nat.{ℕ, _≤_}
-use mathlib.Core.Path.{_≡_, refl, sym, _∙_}
+use Prim.Native.Nat.{ℕ, _+_, _-_, _≤_, _<_}
+use mathlib.Core.Path.{_≡_, refl, sym, ap, _∙_}
+use mathlib.Core.Bool.{false}
 use mathlib.Core.List.{List}
 use native.Mathlib.Omega.{arith}
-use lib.ListN.{length}
+use lib.ListN.{length, getD}
+use lib.Seq.{getD-take, getD-drop}
+use Rattle.sheet.specs.Data.{isKept}
+use Rattle.sheet.specs.Expressions.{isKeptWire}
 use Rattle.sheet.specs.Outcomes.{refusal, result}
 use Rattle.sheet.specs.Readings.{Reading, refused, got}
-use Rattle.sheet.specs.Sheets.{Sheet, sheetForms, readSheet, sheetOf, checkedOf, checkOf}
-use Rattle.sheet.specs.Laws.Headers.{SheetRead, sheet-view}
+use Rattle.sheet.specs.Sheets.{Sheet, sheetForms, expressionAt, before, keptCount, readWires, readSheet, sheetOf, checkedOf, checkOf}
+use Rattle.sheet.specs.Laws.Headers.{SheetRead, sheet-view, section-good, section-length}
 use Rattle.sheet.specs.Laws.Lists.{never}
-use Rattle.sheet.specs.Laws.Typing.{read-passed, read-counted}
+use Rattle.sheet.specs.Laws.Typing.{read-passed, read-counted, passed-check}
+use Rattle.sheet.specs.Laws.Wires.{all-extent, wires-kept}
 use Rattle.sheet.specs.declared.Refusal.{Refusal}
+use Rattle.sheet.specs.declared.Refusal.the-variants.{TypeByte}
 use Rattle.sheet.specs.declared.Checked.the-variants.{Refused, Passed}
 
 pub check-refused : (s : List ℕ) {why : Refusal} {place : ℕ} → checkOf s ≡ Refused why place → sheetOf s ≡ refusal why place
@@ -20,6 +26,27 @@ check-refused s {why} {place} = go (readSheet s) refl
     go : (x : Reading Sheet) → readSheet s ≡ x → checkedOf x ≡ Refused why place → sheetOf s ≡ refusal why place
     go (refused found at) q h = rw q (cc)
     go (got sheet next count) q h = never (cc)
+
+-- a wire of a sheet that passes is kept just where its type byte says so: the types of the wires stand behind those of the inputs
+pub kept-by-byte : (s : List ℕ) {sheet : Sheet} → sheetOf s ≡ result sheet → (w : ℕ) → w < length (sheet .expressions)
+    → isKeptWire (expressionAt (sheet .expressions) w) ≡ isKept (getD s (2 + getD s 0 0 + w) 0)
+unfolding readWires
+kept-by-byte s {sheet} e w l =
+    let p = passed-check s e in
+    let v = sheet-view s (p .read) in
+    let wires = before s (v .wiresEnd) (v .wireCount) in
+    let g₁ = section-good s 0 0 17 2 false TypeByte (v .inputs) in
+    let g₂ = section-good s (v .inputsEnd) 1 65 4 false TypeByte (v .wires) in
+    let trees : sheet .expressions ≡ v .expressions = ap (λ (x : Sheet). x .expressions) (v .is) in
+    let run = all-extent (before s (v .inputsEnd) (v .inputCount)) wires s (v .outputsEnd) (v .each) in
+    let place : v .wiresEnd - v .wireCount + w ≡ 2 + getD s 0 0 + w =
+    omega (arith, g₁ .count, g₁ .bytes .next, g₂ .bytes .next) in
+    let inside : w < length wires = omega (arith, ap length trees, run .sized) in
+    let few : w < v .wireCount = omega (arith, inside, section-length g₂) in
+    let byte : getD wires w 0 ≡ getD s (2 + getD s 0 0 + w) 0 = rw (getD-take, getD-drop, place) in
+    ap (λ x. isKeptWire (expressionAt x w)) trees
+    ∙ (wires-kept (before s (v .inputsEnd) (v .inputCount)) wires s wires (v .outputsEnd) (keptCount wires) (v .each) w inside
+    ∙ ap isKept byte)
 
 -- a sheet that passes the check with these counts
 pub record CheckPassed (s : List ℕ) (inputs wires outputs cells : ℕ) : Type 0 where

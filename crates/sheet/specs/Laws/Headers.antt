@@ -8,11 +8,11 @@ use lib.Dec.{leb, ltb, eqb}
 use lib.ListN.{length, getD, length-take, length-drop}
 use lib.Seq.{getD-take, getD-drop}
 use borrow.Author.Tests.{leb-false, ltb-false, eqb-false}
-use Rattle.sheet.specs.Data.{typeOfByte}
+use Rattle.sheet.specs.Data.{typeOfByte, wireType}
 use Rattle.sheet.specs.Expressions.{Expression}
-use Rattle.sheet.specs.Readings.{got, onRead, readEach, readExpression}
+use Rattle.sheet.specs.Readings.{got, onRead}
 use Rattle.sheet.specs.Headers.{fieldOf, bytesOf, sectionOf}
-use Rattle.sheet.specs.Sheets.{Sheet, before, outputsFrom, wiresFrom, readSheet}
+use Rattle.sheet.specs.Sheets.{Sheet, before, readWires, outputsFrom, wiresFrom, readSheet}
 use Rattle.sheet.specs.Laws.Readings.{not-good, passed, passed-reading, andThen-got, onRead-got}
 use Rattle.sheet.specs.declared.Refusal.{Refusal}
 use Rattle.sheet.specs.declared.Refusal.the-variants.{CountRange, TypeByte, OutputWire}
@@ -116,14 +116,13 @@ pub record SheetRead (s : List ℕ) (sheet : Sheet) (n k : ℕ) : Type 0 where
   pub some-byte : 1 ≤ length s
   pub few-bytes : length s ≤ 4096
   pub inputs : sectionOf s 0 0 17 2 false TypeByte ≡ Got inputsEnd inputCount
-  pub wires : sectionOf s inputsEnd 1 65 2 false TypeByte ≡ Got wiresEnd wireCount
+  pub wires : sectionOf s inputsEnd 1 65 4 false TypeByte ≡ Got wiresEnd wireCount
   pub outputs : sectionOf s wiresEnd 1 17 (length (before s wiresEnd wireCount)) true OutputWire ≡ Got outputsEnd outputCount
-  pub each : readEach (readExpression (before s inputsEnd inputCount) (before s wiresEnd wireCount) s 16)
-      (before s wiresEnd wireCount) outputsEnd 0 ≡ got expressions n k
+  pub each : readWires (before s inputsEnd inputCount) (before s wiresEnd wireCount) s outputsEnd ≡ got expressions n k
   pub nothing-left : length s ≤ n
   pub is : sheet ≡ record {
     inputTypes = map typeOfByte (before s inputsEnd inputCount);
-    wireTypes = map typeOfByte (before s wiresEnd wireCount);
+    wireTypes = map wireType (before s wiresEnd wireCount);
     outputs = before s outputsEnd outputCount;
     expressions = expressions;
   }
@@ -134,10 +133,10 @@ sheet-view s {sheet} {n} {k} e =
     let some-byte = passed-reading (eqb (length s) 0) _ _ _ e in
     let few-bytes = passed-reading (ltb 4096 (length s)) _ _ _ (some-byte .1) in
     let (n₁, k₁, inputs, e₁) = onRead-got (sectionOf s 0 0 17 2 false TypeByte) _ (few-bytes .1) in
-    let (n₂, k₂, wires, e₂) = onRead-got (sectionOf s n₁ 1 65 2 false TypeByte) _ e₁ in
+    let (n₂, k₂, wires, e₂) = onRead-got (sectionOf s n₁ 1 65 4 false TypeByte) _ e₁ in
     let (n₃, k₃, outputs, e₃) = onRead-got (sectionOf s n₂ 1 17 (length (before s n₂ k₂)) true OutputWire) _ e₂ in
     let (es, end, count, each, e₄) =
-    andThen-got (readEach (readExpression (before s n₁ k₁) (before s n₂ k₂) s 16) (before s n₂ k₂) n₃ 0) _ e₃ in
+    andThen-got (readWires (before s n₁ k₁) (before s n₂ k₂) s n₃) _ e₃ in
     let whole = passed-reading (ltb end (length s)) _ _ _ e₄ in
     let (same, next, cells) = got-parts (whole .1) in
     record {

@@ -13,7 +13,7 @@ use borrow.Author.Tests.{eq-eqb, not-false}
 use mir.Facts.{fits-ofZ, toZ-ofZ}
 use Rattle.numbers.specs.Words.{wordAt, wordBytes}
 use Rattle.sheet.specs.Data.{ValueType, boolean, number, typeOf, IsOf, standsFor, datumOf, wordOf}
-use Rattle.sheet.specs.Expressions.{Expression, constant, wire, input, unary, binary, choose, reset, pre, fby}
+use Rattle.sheet.specs.Expressions.{Expression, constant, wire, input, last, unary, binary, choose, reset, pre, fby, kept}
 use Rattle.sheet.specs.Expressions.{CellForm, fbyCell, cellForms}
 use Rattle.sheet.specs.Outcomes.{result}
 use Rattle.sheet.specs.Sheets.{Sheet, formsOf, sheetForms}
@@ -210,6 +210,7 @@ unfolding HasType cellForms startMemory
 start-valid is ws t (constant d) h = done
 start-valid is ws t (wire w) h = done
 start-valid is ws t (input i) h = done
+start-valid is ws t (last w) h = done
 start-valid is ws t (unary o a) h = start-valid is ws (unaryType o) a (h .1)
 start-valid is ws t (binary o a b) h =
     both-start (cellForms a) (cellForms b) (start-valid is ws (operandType o) a (h .1)) (start-valid is ws (operandType o) b (h .2))
@@ -221,6 +222,7 @@ start-valid is ws t (reset c a) h =
 start-valid is ws t (pre d a) h = own-is t d (h .0) then start-valid is ws t a (h .1)
 start-valid is ws t (fby u a b) h =
     refl then both-start (cellForms a) (cellForms b) (start-valid is ws t a (h .1)) (start-valid is ws t b (h .2))
+start-valid is ws t (kept u a) h = datum-is u 0 then start-valid is ws t a (h .1)
 
 pub starts-valid : (inputTypes wireTypes : List ValueType) {ts : List ValueType} {es : List Expression}
     → HaveTypes inputTypes wireTypes ts es → ValidCells (formsOf es) (startMemory (formsOf es))

@@ -9,9 +9,9 @@ use lib.ListN.{length, getD, length-append}
 use lib.Dec.{leb, ltb, eqb}
 use borrow.Author.Tests.{leb-false, ltb-false, eqb-true, eqb-false}
 use Rattle.sheet.specs.Data.{ValueType, typeOfByte, datumOf}
-use Rattle.sheet.specs.Expressions.{Expression, constant, wire, input, unary, binary, choose, reset, pre, fby}
+use Rattle.sheet.specs.Expressions.{Expression, constant, wire, input, last, unary, binary, choose, reset, pre, fby, kept}
 use Rattle.sheet.specs.Expressions.{CellForm, preCell, fbyCell, cellForms, cellCount}
-use Rattle.sheet.specs.Kinds.{bodyOf, cellsOf, countOf, operand, operandsOf, limitOf, foundOf, meaningOf, kindCount}
+use Rattle.sheet.specs.Kinds.{bodyOf, cellsOf, countOf, operand, operandsOf, limitOf, namesUnkept, foundOf, meaningOf, kindCount}
 use Rattle.sheet.specs.Readings.{Reading, refused, got, andThen, onRead, readEach, namedAt, bodyAt}
 use Rattle.sheet.specs.Readings.{namesOf, bodyFrom, ownOf, readExpression}
 use Rattle.sheet.specs.Sheets.{formsOf}
@@ -69,6 +69,7 @@ pub record OwnGood (inputs wires s : List ℕ) (level t at c n k : ℕ) : Type 0
   pub cells : c + cellsOf (getD s at 0) ≤ 64
   pub ends : at + 1 + bodyOf (getD s at 0) ≤ length s
   pub names : namedAt s at < limitOf inputs wires (getD s at 0)
+  pub asked-kept : namesUnkept wires (getD s at 0) (namedAt s at) ≡ false
   pub type : foundOf inputs wires t (getD s at 0) (namedAt s at) ≡ t
   pub next : n ≡ at + 1 + bodyOf (getD s at 0)
   pub count : k ≡ c + cellsOf (getD s at 0)
@@ -113,7 +114,8 @@ module _ (inputs wires s : List ℕ) where
       let has-cell = passed (ltb 64 (c + cellsOf kind)) _ _ _ (has-level .1) in
       let has-body = passed (ltb (length s) (at + 1 + bodyOf kind)) _ _ _ (has-cell .1) in
       let has-name = passed (leb (limitOf inputs wires kind) (namedAt s at)) _ _ _ (has-body .1) in
-      let has-type = granted (eqb (foundOf inputs wires t kind (namedAt s at)) t) _ _ _ (has-name .1) in
+      let has-kept = passed (namesUnkept wires kind (namedAt s at)) _ _ _ (has-name .1) in
+      let has-type = granted (eqb (foundOf inputs wires t kind (namedAt s at)) t) _ _ _ (has-kept .1) in
       record {
         starts = leb-false _ _ (has-byte .0);
         kind = leb-false _ _ (has-kind .0);
@@ -121,6 +123,7 @@ module _ (inputs wires s : List ℕ) where
         cells = ltb-false _ _ (has-cell .0);
         ends = ltb-false _ _ (has-body .0);
         names = leb-false _ _ (has-name .0);
+        asked-kept = has-kept .0;
         type = eqb-true _ _ (has-type .0);
         next = got-next (has-type .1);
         count = got-count (has-type .1);
@@ -173,7 +176,7 @@ pub operands-counted : (t k : ℕ) → k < kindCount → length (operandsOf k t)
 unfolding operandsOf
 operands-counted t = every-kind (λ k. length (operandsOf k t) ≡ countOf k)
     (refl ▸ refl ▸ refl ▸ refl ▸ refl ▸ refl ▸ refl ▸ refl ▸ refl
-    ▸ refl ▸ refl ▸ refl ▸ refl ▸ refl ▸ refl ▸ refl ▸ refl ▸ refl ▸ end)
+    ▸ refl ▸ refl ▸ refl ▸ refl ▸ refl ▸ refl ▸ refl ▸ refl ▸ refl ▸ refl ▸ end)
 
 -- the form of the cell that an expression itself owns, by its kind: a pre's with its constant, or an fby's
 abbrev pub ownForms : ℕ → ValueType → ℕ → List CellForm
@@ -210,7 +213,7 @@ pub forms-of-kind : (k : ℕ) → k < kindCount → FormsOfKind k
 unfolding meaningOf cellForms
 forms-of-kind = every-kind FormsOfKind
     (none ▸ none ▸ none ▸ none ▸ one ▸ one ▸ two ▸ two ▸ two ▸ two ▸ two ▸ two
-    ▸ three ▸ three ▸ two ▸ of-pre ▸ of-pre ▸ of-fby ▸ end)
+    ▸ three ▸ three ▸ two ▸ of-pre ▸ of-pre ▸ of-fby ▸ none ▸ end)
   where
     none : ValueType → ℕ → (os : List Expression) → length os ≡ 0 → [] ≡ formsOf os
     none t b = forms-of-none
@@ -240,7 +243,7 @@ unfolding startMemory
 own-starts inputs wires t n b = every-kind (λ k. foundOf inputs wires t k n ≡ t
     → startMemory (ownForms k (typeOfByte t) b) ≡ cond (eqb (cellsOf k) 0) [] (ownCell k b ∷ []))
     (same ▸ same ▸ same ▸ same ▸ same ▸ same ▸ same ▸ same ▸ same ▸ same ▸ same ▸ same ▸ same ▸ same ▸ same
-    ▸ (λ e. rw (← e)) ▸ (λ e. rw (← e)) ▸ same ▸ end)
+    ▸ (λ e. rw (← e)) ▸ (λ e. rw (← e)) ▸ same ▸ same ▸ end)
   where
     same : {A : Type 0} {cells : List Cell} → A → cells ≡ cells
     same e = refl
@@ -248,19 +251,21 @@ own-starts inputs wires t n b = every-kind (λ k. foundOf inputs wires t k n ≡
 pub own-forms-length : (type : ValueType) (body k : ℕ) → k < kindCount → length (ownForms k type body) ≡ cellsOf k
 own-forms-length type body = every-kind (λ k. length (ownForms k type body) ≡ cellsOf k)
     (refl ▸ refl ▸ refl ▸ refl ▸ refl ▸ refl ▸ refl ▸ refl ▸ refl
-    ▸ refl ▸ refl ▸ refl ▸ refl ▸ refl ▸ refl ▸ refl ▸ refl ▸ refl ▸ end)
+    ▸ refl ▸ refl ▸ refl ▸ refl ▸ refl ▸ refl ▸ refl ▸ refl ▸ refl ▸ refl ▸ end)
 
 pub forms-length : (e : Expression) → length (cellForms e) ≡ cellCount e
 unfolding cellForms cellCount
 forms-length (constant d) = refl
 forms-length (wire w) = refl
 forms-length (input i) = refl
+forms-length (last w) = refl
 forms-length (unary o a) = forms-length a
 forms-length (binary o a b) = simp (length-append, forms-length a, forms-length b)
 forms-length (choose o c a b) = simp (length-append, forms-length c, forms-length a, forms-length b)
 forms-length (reset c a) = simp (length-append, forms-length c, forms-length a)
 forms-length (pre d a) = ap suc (forms-length a)
 forms-length (fby t a b) = simp (length-append, forms-length a, forms-length b)
+forms-length (kept t a) = ap suc (forms-length a)
 
 -- where an expression from `at` on ends, and the cells that were counted behind it
 pub record ExpressionExtent (s : List ℕ) (at c : ℕ) (e : Expression) (n k : ℕ) : Type 0 where

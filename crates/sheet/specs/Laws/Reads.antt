@@ -7,7 +7,7 @@ use mathlib.Core.Option.{some}
 use native.Mathlib.Omega.{arith}
 use lib.ListN.{length, take, getElem?}
 use Rattle.sheet.specs.Data.{ValueType, boolean}
-use Rattle.sheet.specs.Expressions.{Expression, constant, wire, input, unary, binary, choose, reset, pre, fby}
+use Rattle.sheet.specs.Expressions.{Expression, constant, wire, input, last, unary, binary, choose, reset, pre, fby, kept}
 use Rattle.sheet.specs.Kinds.{kindCount, countOf, readCountOf, operand, meaningOf}
 use Rattle.sheet.specs.Reads.{wiresRead, allRead, wiresNamed}
 use Rattle.sheet.specs.Lists.{Every, none, _and_}
@@ -42,7 +42,7 @@ reads-of-kind = every-kind (λ k. (t : ValueType) (body : ℕ) (os : List Expres
     → wiresRead (meaningOf k t body os) ≡ wiresNamed k body ++ allRead (take (readCountOf k) os))
     (none ▸ none ▸ (λ t b os e. ap (λ ws. b ∷ ws) (reads-none os)) ▸ none
     ▸ one ▸ one ▸ two ▸ two ▸ two ▸ two ▸ two ▸ two ▸ three ▸ three ▸ two
-    ▸ delayed ▸ delayed ▸ (λ t b os e. reads-one os (omega arith)) ▸ end)
+    ▸ delayed ▸ delayed ▸ (λ t b os e. reads-one os (omega arith)) ▸ none ▸ end)
   where
     none : ValueType → ℕ → (os : List Expression) → length os ≡ 0 → [] ≡ allRead (take 0 os)
     none t b os e = reads-none os
@@ -72,6 +72,7 @@ module _ (inputTypes wireTypes : List ValueType) where
   typed-reads (constant d) t h = none
   typed-reads (wire w) t h = some-below wireTypes w h and none
   typed-reads (input i) t h = none
+  typed-reads (last w) t h = none
   typed-reads (unary o a) t h = typed-reads a (unaryType o) (h .1)
   typed-reads (binary o a b) t h = every-join (typed-reads a (operandType o) (h .1)) (typed-reads b (operandType o) (h .2))
   typed-reads (choose o c a b) t h =
@@ -79,3 +80,4 @@ module _ (inputTypes wireTypes : List ValueType) where
   typed-reads (reset c a) t h = every-join (typed-reads c boolean (h .0)) (typed-reads a t (h .1))
   typed-reads (pre d a) t h = none
   typed-reads (fby u a b) t h = typed-reads a t (h .1)
+  typed-reads (kept u a) t h = typed-reads a t (h .1)

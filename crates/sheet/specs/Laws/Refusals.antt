@@ -9,14 +9,15 @@ use lib.ListN.{length, getD}
 use lib.Dec.{eqb, ltb, leb}
 use borrow.Author.Tests.{leb-false, ltb-true, ltb-false}
 use Rattle.sheet.specs.Expressions.{Expression, CellForm}
-use Rattle.sheet.specs.Kinds.{bodyOf, cellsOf, operandsOf, limitOf, foundOf, kindCount}
+use Rattle.sheet.specs.Kinds.{bodyOf, cellsOf, operandsOf, limitOf, namesUnkept, foundOf, kindCount}
 use Rattle.sheet.specs.Data.{ValueType}
 use Rattle.sheet.specs.Memory.{invalidAt, memoryOf, startOutcome, answerOf, startCall}
 use Rattle.sheet.specs.Rows.{wrongAt, inputsOf}
 use Rattle.sheet.specs.Outcomes.{Outcome, refusal, result, followedBy, lowest, unlessLength, unlessAny, numberOf}
 use Rattle.sheet.specs.Readings.{Reading, refused, got, andThen, onRead, readEach, namedAt, namesOf, bodyFrom, ownOf, readExpression}
 use Rattle.sheet.specs.Headers.{fieldOf, bytesOf, sectionOf}
-use Rattle.sheet.specs.Sheets.{Sheet, sheetForms, before, outputsFrom, wiresFrom, readSheet, outcomeOf, sheetOf}
+use Rattle.sheet.specs.Data.{plainByte}
+use Rattle.sheet.specs.Sheets.{Sheet, sheetForms, before, keptCount, readWire, readWires, outputsFrom, wiresFrom, readSheet, outcomeOf, sheetOf}
 use Rattle.sheet.specs.Sheets.{checkedOf, checkOf}
 use Rattle.sheet.specs.Laws.Readings.{own-good}
 use Rattle.sheet.specs.declared.Refusal.{Refusal}
@@ -109,8 +110,9 @@ module _ (inputs wires s : List ℕ) where
       by-test (ReadWithin (length s)) (ltb (length s) (at + 1 + bodyOf (getD s at 0))) (λ i. refused-at s (omega arith) (omega arith)) (λ i.
       by-test (ReadWithin (length s)) (leb (limitOf inputs wires (getD s at 0)) (namedAt s at))
       (λ j. refused-at s (omega arith) (omega arith)) (λ j.
-      by-test (ReadWithin (length s)) (eqb (foundOf inputs wires t (getD s at 0) (namedAt s at)) t) (λ k. got-within) (λ k.
-      refused-at s (omega arith) (omega arith))))))))
+      by-test (ReadWithin (length s)) (namesUnkept wires (getD s at 0) (namedAt s at)) (λ k. refused-at s (omega arith) (omega arith)) (λ k.
+      by-test (ReadWithin (length s)) (eqb (foundOf inputs wires t (getD s at 0) (namedAt s at)) t) (λ l. got-within) (λ l.
+      refused-at s (omega arith) (omega arith)))))))))
 
   each-within : (read : ℕ → ℕ → ℕ → Reading Expression) → ((t at c : ℕ) → ReadingWithin (length s) (read t at c))
       → (ts : List ℕ) (at c : ℕ) → ReadingWithin (length s) (readEach read ts at c)
@@ -130,6 +132,13 @@ module _ (inputs wires s : List ℕ) where
       and-then-within (length s) (readEach (readExpression inputs wires s l) (operandsOf (getD s at 0) t) m j) _
       (each-within (readExpression inputs wires s l) (expression-within l) (operandsOf (getD s at 0) t) m j) (λ os n k. got-within))
 
+  wires-within : (at : ℕ) → ReadingWithin (length s) (readWires inputs wires s at)
+  unfolding readWires
+  wires-within at =
+      each-within (readWire inputs wires s) (λ b a c.
+      and-then-within (length s) (readExpression inputs wires s 16 (plainByte b) a c) _ (expression-within 16 (plainByte b) a c) (λ e n k. got-within))
+      wires at (keptCount wires)
+
 -- The sheet.
 pub sheet-within : (s : List ℕ) → ReadingWithin 4096 (readSheet s)
 unfolding readSheet wiresFrom outputsFrom
@@ -138,12 +147,11 @@ sheet-within s =
     by-test (ReadingWithin 4096) (ltb 4096 (length s)) (λ f. first) (λ f.
     lift (ltb-false 4096 (length s) f)
     (on-read-within (length s) (sectionOf s 0 0 17 2 false TypeByte) _ (section-within s 0 0 17 2 false TypeByte (omega arith)) (λ m j g.
-    on-read-within (length s) (sectionOf s m 1 65 2 false TypeByte) _ (section-within s m 1 65 2 false TypeByte (omega arith)) (λ n k h.
+    on-read-within (length s) (sectionOf s m 1 65 4 false TypeByte) _ (section-within s m 1 65 4 false TypeByte (omega arith)) (λ n k h.
     on-read-within (length s) (sectionOf s n 1 17 (length (before s n k)) true OutputWire) _
     (section-within s n 1 17 (length (before s n k)) true OutputWire (omega arith)) (λ o l i.
-    and-then-within (length s) (readEach (readExpression (before s m j) (before s n k) s 16) (before s n k) o 0) _
-    (each-within (before s m j) (before s n k) s (readExpression (before s m j) (before s n k) s 16)
-    (expression-within (before s m j) (before s n k) s 16) (before s n k) o 0) (λ es end count.
+    and-then-within (length s) (readWires (before s m j) (before s n k) s o) _
+    (wires-within (before s m j) (before s n k) s o) (λ es end count.
     by-test (ReadingWithin (length s)) (ltb end (length s))
     (λ q. refused-within {why = LeftOver} (record { number = omega arith; bounded = omega (arith, ltb-true end (length s) q) }))
     (λ q. got-within))))))))

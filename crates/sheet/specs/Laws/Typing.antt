@@ -12,14 +12,15 @@ use borrow.Author.Tests.{ltb-true, ltb-false}
 use mir.Syntax.{w32}
 use mir.Val.{toZ, sel, SFits}
 use Rattle.numbers.specs.Words.{wordAt}
-use Rattle.sheet.specs.Data.{ValueType, boolean, number, typeOfByte, typeOf, IsOf, datumOf}
-use Rattle.sheet.specs.Expressions.{Expression}
+use Rattle.sheet.specs.Data.{ValueType, boolean, number, typeOfByte, plainByte, isKept, wireType, typeOf, IsOf, datumOf}
+use Rattle.sheet.specs.Expressions.{Expression, kept}
 use Rattle.sheet.specs.Kinds.{bodyOf, operand, operandsOf, limitOf, foundOf, meaningOf, kindCount}
 use Rattle.sheet.specs.Outcomes.{result}
-use Rattle.sheet.specs.Sheets.{Sheet, sheetForms, before, readSheet, sheetOf}
+use Rattle.sheet.specs.Sheets.{Sheet, sheetForms, before, keptCount, readWire, readWires, readSheet, sheetOf}
 use Rattle.sheet.specs.Readings.{Reading, refused, got, readEach, namedAt, readExpression}
 use Rattle.sheet.specs.Typing.{HasType, HaveTypes, WellTyped, done, _then_}
-use Rattle.sheet.specs.Laws.Readings.{end, _▸_, every-kind, run-view, no-level, expression-view, run-extent}
+use Rattle.sheet.specs.Laws.Readings.{end, _▸_, every-kind, run-view, no-level, expression-view}
+use Rattle.sheet.specs.Laws.Wires.{wire-view, all-extent, kept-few}
 use Rattle.sheet.specs.Laws.Headers.{section-good, section-length, section-byte, sheet-view}
 use Rattle.sheet.specs.declared.Datum.{Datum}
 use Rattle.sheet.specs.declared.Datum.the-variants.{Boolean, Number}
@@ -41,19 +42,19 @@ pub own-type : (t : ValueType) (d : Datum) → IsOf t d → typeOf d ≡ t
 own-type boolean (Boolean b) h = refl
 own-type number (Number z) h = refl
 
--- the type of what is named
-pub type-of-named : (bytes : List ℕ) (i : ℕ) {t : ℕ} → i < length bytes → getD bytes i 0 ≡ t
-    → getElem? (map typeOfByte bytes) i ≡ some (typeOfByte t)
-type-of-named [] i l e = absurd (omega arith)
-type-of-named (b ∷ bytes) zero l e = ap (λ x. some (typeOfByte x)) e
-type-of-named (b ∷ bytes) (suc i) l e = type-of-named bytes i (omega arith) e
+-- the type of what is named, an input or, where `plain` takes the mark of kept wires off, a wire
+pub type-of-named : (plain : ℕ → ℕ) (bytes : List ℕ) (i : ℕ) {t : ℕ} → i < length bytes → plain (getD bytes i 0) ≡ t
+    → getElem? (map (λ b. typeOfByte (plain b)) bytes) i ≡ some (typeOfByte t)
+type-of-named plain [] i l e = absurd (omega arith)
+type-of-named plain (b ∷ bytes) zero l e = ap (λ x. some (typeOfByte x)) e
+type-of-named plain (b ∷ bytes) (suc i) l e = type-of-named plain bytes i (omega arith) e
 
 module _ (inputs wires : List ℕ) where
   abbrev Typed : ValueType → Expression → Type 0
-  Typed = HasType (map typeOfByte inputs) (map typeOfByte wires)
+  Typed = HasType (map typeOfByte inputs) (map wireType wires)
 
   abbrev AllTyped : List ValueType → List Expression → Type 0
-  AllTyped = HaveTypes (map typeOfByte inputs) (map typeOfByte wires)
+  AllTyped = HaveTypes (map typeOfByte inputs) (map wireType wires)
 
   of-one : {t : ValueType} {os : List Expression} → AllTyped (t ∷ []) os → Typed t (operand os 0)
   of-one (p then done) = p
@@ -76,8 +77,8 @@ module _ (inputs wires : List ℕ) where
   typed-kind = every-kind TypedKind
       ((λ t w n os l e h. datum-is (typeOfByte t) n)
       ▸ (λ t w n os l e h. datum-is (typeOfByte t) w)
-      ▸ (λ t w n os l e h. type-of-named wires n l e)
-      ▸ (λ t w n os l e h. type-of-named inputs n l e)
+      ▸ (λ t w n os l e h. type-of-named plainByte wires n l e)
+      ▸ (λ t w n os l e h. type-of-named (λ b. b) inputs n l e)
       ▸ (λ t w n os l e h. (ap typeOfByte e, of-one h))
       ▸ (λ t w n os l e h. (ap typeOfByte e, of-one h))
       ▸ (λ t w n os l e h. (ap typeOfByte e, of-two h .0, of-two h .1))
@@ -92,18 +93,20 @@ module _ (inputs wires : List ℕ) where
       ▸ (λ t w n os l e h. (datum-is (typeOfByte t) n, subst (λ u. Typed (typeOfByte u) (operand os 0)) e (of-one h)))
       ▸ (λ t w n os l e h. (datum-is (typeOfByte t) w, subst (λ u. Typed (typeOfByte u) (operand os 0)) e (of-one h)))
       ▸ (λ t w n os l e h. (refl, of-two h .0, of-two h .1))
+      ▸ (λ t w n os l e h. type-of-named plainByte wires n l e)
       ▸ end)
 
-  run-typed-by : (read : ℕ → ℕ → ℕ → Reading Expression)
-      → ((t at c : ℕ) (e : Expression) (n k : ℕ) → read t at c ≡ got e n k → Typed (typeOfByte t) e)
+  run-typed-by : (typeIn : ℕ → ValueType) (read : ℕ → ℕ → ℕ → Reading Expression)
+      → ((t at c : ℕ) (e : Expression) (n k : ℕ) → read t at c ≡ got e n k → Typed (typeIn t) e)
       → (ts : List ℕ) (at c : ℕ) {es : List Expression} {n k : ℕ} → readEach read ts at c ≡ got es n k
-      → AllTyped (map typeOfByte ts) es
+      → AllTyped (map typeIn ts) es
   unfolding readEach
-  run-typed-by read one [] at c {es} r = let trees : es ≡ [] = cc in rw trees done
-  run-typed-by read one (t ∷ ts) at c r =
+  run-typed-by typeIn read one [] at c {es} r = let trees : es ≡ [] = cc in rw trees done
+  run-typed-by typeIn read one (t ∷ ts) at c r =
       let v = run-view read t ts at c r in
-      let typed = one t at c (v .head) (v .next) (v .count) (v .first) then run-typed-by read one ts (v .next) (v .count) (v .rest) in
-      subst (λ x. AllTyped (map typeOfByte (t ∷ ts)) x) (sym (v .trees)) typed
+      let typed =
+      one t at c (v .head) (v .next) (v .count) (v .first) then run-typed-by typeIn read one ts (v .next) (v .count) (v .rest) in
+      subst (λ x. AllTyped (map typeIn (t ∷ ts)) x) (sym (v .trees)) typed
 
   module _ (s : List ℕ) where
     pub expression-typed : (level t at c : ℕ) {e : Expression} {n k : ℕ} → readExpression inputs wires s level t at c ≡ got e n k
@@ -113,16 +116,29 @@ module _ (inputs wires : List ℕ) where
         let v = expression-view inputs wires s l t at c r in
         let kind = getD s at 0 in
         let each =
-        run-typed-by (readExpression inputs wires s l) (λ u a b f m j. expression-typed l u a b)
+        run-typed-by typeOfByte (readExpression inputs wires s l) (λ u a b f m j. expression-typed l u a b)
         (operandsOf kind t) (v .first) (v .before) (v .each) in
         let g = v .good in
         let typed =
         typed-kind kind (g .kind) t (wordAt s (at + 1)) (namedAt s at) (v .operands) (g .names) (g .type) each in
         subst (λ x. Typed (typeOfByte t) x) (sym (v .tree)) typed
 
-    pub run-typed : (level : ℕ) (ts : List ℕ) (at c : ℕ) {es : List Expression} {n k : ℕ}
-        → readEach (readExpression inputs wires s level) ts at c ≡ got es n k → AllTyped (map typeOfByte ts) es
-    run-typed level = run-typed-by (readExpression inputs wires s level) (λ t at c e n k. expression-typed level t at c)
+    wire-typed : (b at c : ℕ) {e : Expression} {n k : ℕ} → readWire inputs wires s b at c ≡ got e n k → Typed (wireType b) e
+    unfolding HasType
+    wire-typed b at c {e} r =
+        let v = wire-view inputs wires s b at c r in
+        let typed = expression-typed 16 (plainByte b) at c (v .reads) in
+        subst (Typed (wireType b)) (sym (v .whole)) (go (v .tree) typed (isKept b))
+      where
+        go : (tree : Expression) → Typed (wireType b) tree → (t : Bool) → Typed (wireType b) (cond t (kept (wireType b) tree) tree)
+        go tree h true = (refl, h)
+        go tree h false = h
+
+    pub wires-typed : (at : ℕ) {es : List Expression} {n k : ℕ} → readWires inputs wires s at ≡ got es n k
+        → AllTyped (map wireType wires) es
+    unfolding readWires
+    wires-typed at =
+        run-typed-by wireType (readWire inputs wires s) (λ b a c e n k. wire-typed b a c) wires at (keptCount wires)
 
 -- What a sheet that passes the check is: users need nothing else.
 pub record PassedCheck (s : List ℕ) (sheet : Sheet) : Type 0 where
@@ -154,23 +170,23 @@ read-passed s {sheet} {n} {k} e =
     let wires = before s (v .wiresEnd) (v .wireCount) in
     let outputs = before s (v .outputsEnd) (v .outputCount) in
     let g₁ = section-good s 0 0 17 2 false TypeByte (v .inputs) in
-    let g₂ = section-good s (v .inputsEnd) 1 65 2 false TypeByte (v .wires) in
+    let g₂ = section-good s (v .inputsEnd) 1 65 4 false TypeByte (v .wires) in
     let g₃ = section-good s (v .wiresEnd) 1 17 (length wires) true OutputWire (v .outputs) in
-    let run = run-extent inputs wires s 16 wires (v .outputsEnd) 0 (v .each) in
-    let typed = run-typed inputs wires s 16 wires (v .outputsEnd) 0 (v .each) in
+    let run = all-extent inputs wires s (v .outputsEnd) (v .each) in
+    let typed = wires-typed inputs wires s (v .outputsEnd) (v .each) in
     let end : n ≡ length s = omega (arith, run .within (g₃ .bytes .within), v .nothing-left) in
     let passed : PassedCheck s (record {
       inputTypes = map typeOfByte inputs;
-      wireTypes = map typeOfByte wires;
+      wireTypes = map wireType wires;
       outputs = outputs;
       expressions = v .expressions;
     }) = record {
       cells = k;
       read = e ∙ ap₂ (λ x y. got x y k) (v .is) end;
       counted = omega (arith, run .counted);
-      few-cells = run .limited (omega arith);
+      few-cells = run .limited (omega (arith, kept-few wires, section-length g₂, g₂ .below));
       well-typed = typed;
-      same-length = length-map wires typeOfByte ∙ sym (run .sized);
+      same-length = length-map wires wireType ∙ sym (run .sized);
       some-wire = omega (arith, run .sized, section-length g₂, g₂ .least);
       few-wires = omega (arith, run .sized, section-length g₂, g₂ .below);
       few-inputs = omega (arith, length-map inputs typeOfByte, section-length g₁, g₁ .below);

@@ -69,7 +69,7 @@ part-wires-from-end c = ends c .bytes .within
 wires-from-requires : tie.Need-wires-from-requires
 wires-from-requires c κs =
     let g = ends (c .before .before .before .before .before) in (
-      rw (span g) (section-types (omega arith) g),
+      rw (span g) (section-types (omega arith) (omega arith) g),
       omega (arith, c .before .before .before .before .before .before .before .before .before .if2 .left),
       c .before .before .before .before .before .before .before .before .before .before .before .before .pre,
     )

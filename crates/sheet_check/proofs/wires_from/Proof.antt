@@ -22,10 +22,10 @@ enum-known-next c = search needs
 -- the section is good
 ends : (c : tie.After-known-told2)
     → let a = c .before .before .before .before .before .before .args in
-    let g = c .before .next .given .0 in SectionGood (a .sheet .now) (a .at) 1 65 2 (g .0) (g .1 .0)
+    let g = c .before .next .given .0 in SectionGood (a .sheet .now) (a .at) 1 65 4 (g .0) (g .1 .0)
 ends c =
     let a = c .before .before .before .before .before .before .args in
-    section-good (a .sheet .now) (a .at) 1 65 2 false TypeByte
+    section-good (a .sheet .now) (a .at) 1 65 4 false TypeByte
     (sym (c .before .before .before .section .ensures) ∙ c .before .next .given .1)
 
 sub-outputs-from : tie.Need-sub-outputs-from
@@ -44,7 +44,7 @@ outputs-from-requires : tie.Need-outputs-from-requires
 outputs-from-requires c κs =
     let p = c .before .before .before .before .before .before .before .before .before .before .before .pre in
     let g = ends (c .before .before .before .before .before) in
-    (p .0, rw (span g) (section-types (omega arith) g), p .1, p .2)
+    (p .0, rw (span g) (section-types (omega arith) (omega arith) g), p .1, p .2)
 
 returns : tie.Need-returns
 unfolding wiresFrom

@@ -14,11 +14,14 @@ use Rattle.sheet.specs.Reads.{allRead}
 use Rattle.sheet.specs.Readings.{got, erased, readEach, ownOf, readExpression}
 use Rattle.sheet.specs.Sheets.{formsOf}
 use Rattle.sheet.specs.Laws.Readings.{own-good, operands-counted}
+use Rattle.sheet.specs.declared.Read.the-variants.{Got}
+use Rattle.sheet_names.specs.Naming.{aheadIn}
 use Rattle.sheet_own.specs.Own.{Lookup, thenType}
 use Rattle.sheet_own.proofs.Nodes.{owner-cells}
-use Rattle.sheet_expressions.proofs.Steps.{each-good, each-refused, own-missing, own-unknown, own-deep, own-passed}
+use Rattle.sheet_expressions.proofs.Steps.{each-good, each-refused, own-missing, own-deep, own-passed}
 use Rattle.sheet_expressions.proofs.Steps.{type-wrong, type-right}
-use Rattle.sheet_expressions.proofs.Noting.{refused-checks, own-stops, limit, Left, left-step, left-none, whole-checks, leaf-checks}
+use Rattle.sheet_expressions.proofs.Noting.{refused-checks, own-stops, extent, Left, left-step, left-none, whole-checks}
+use Rattle.sheet_expressions.proofs.Noting.{leaf-bare, bare-checks}
 use borrow.Fn.Kinds.{In}
 use borrow.Fn.PlainCycle.{Measures, is, falls, and}
 use Rattle.sheet_expressions.proofs.check_one.Reads as check-one
@@ -40,6 +43,8 @@ use Rattle.sheet.proofs.kinds.operands.Reads as operands-reads
 use Rattle.sheet.proofs.kinds.read_operands.Reads as read-operands-reads
 use Rattle.sheet_own.proofs.check_own.Reads as check-own-reads
 use Rattle.sheet_own.proofs.check_leaf.Reads as check-leaf-reads
+use Rattle.sheet_expressions.proofs.check_above.Reads as check-above-reads
+use Rattle.sheet_names.proofs.ahead.Reads as ahead-reads
 use Rattle.sheet_expressions.proofs.either.Reads as either-reads
 use Rattle.sheet_own.proofs.note_own.Reads as note-own-reads
 use Rattle.sheet_own.proofs.refused.Reads as refused-reads
@@ -101,6 +106,8 @@ abbrev check-one-calls : ℕ → check-one-lts.Claims
 check-one-calls t = (
   refused-reads.Asked,
   refused-reads.Learnt,
+  check-above-reads.Asked,
+  check-above-reads.Learnt,
   check-leaf-reads.Asked,
   check-leaf-reads.Learnt,
   check-node-below t,
@@ -123,6 +130,8 @@ check-node-calls t = (
   fits-reads.Learnt,
   refused-reads.Asked,
   refused-reads.Learnt,
+  ahead-reads.Asked,
+  ahead-reads.Learnt,
   note-own-reads.Asked,
   note-own-reads.Learnt,
   check-operands-below t,
@@ -147,14 +156,14 @@ check-operands-calls t = (
 
 abbrev Inv : check-operands-lts.InvT-loop
 Inv sheet names kind level asked at count cells₀ reads₀ operands counted types next₀ behind₀ i₀ cells reads next behind i =
-    (i ≤ operands) × (behind ≤ 64)
+    (i ≤ operands) × (behind ≤ 64) × (aheadIn names ≤ behind)
     × ((l : Lookup names)
     → (erased (readEach (readExpression (l .inputs) (l .wires) (sheet .now) level) (drop i (operandsOf kind asked)) next behind)
     ≡ erased (readEach (readExpression (l .inputs) (l .wires) (sheet .now) level) (operandsOf kind asked) at count))
     × ((es : List Expression) (n k : ℕ)
     → readEach (readExpression (l .inputs) (l .wires) (sheet .now) level) (operandsOf kind asked) at count ≡ got es n k
-    → Left (sheet .now) (readExpression (l .inputs) (l .wires) (sheet .now) level) (drop i (operandsOf kind asked)) next behind n k
-    (formsOf es) count cells₀ cells (counted - i) (allRead (take counted es)) reads₀ reads))
+    → Left (sheet .now) (readExpression (l .inputs) (l .wires) (sheet .now) level) (aheadIn names) (drop i (operandsOf kind asked))
+    next behind n k (formsOf es) (count - aheadIn names) cells₀ cells (counted - i) (allRead (take counted es)) reads₀ reads))
 
 abbrev μ-loop : check-operands-lts.MeasureT-loop
 μ-loop sheet names kind level asked at count cells₀ reads₀ operands counted types next₀ behind₀ i₀ cells reads next behind i = operands - i
@@ -174,29 +183,23 @@ module _ (t : ℕ) where
   read-kind : check-one-lts.Need-index-1-kind (check-one-calls t) (check-one-at t) check-one.Post
   read-kind c = omega arith
 
-  unknown-requires : check-one-lts.Need-refused-requires-2 (check-one-calls t) (check-one-at t) check-one.Post
-  unknown-requires c κs = search needs
+  above-requires : check-one-lts.Need-check-above-requires (check-one-calls t) (check-one-at t) check-one.Post
+  above-requires c κs =
+      let p = c .before .before .before .pre .1 in (p .0, c .before .before .if1 .left, c .if2 .taken, p .1, p .2)
 
-  unknown : check-one-lts.Need-returns-2 (check-one-calls t) (check-one-at t) check-one.Post
-  unknown c = λ l.
-      let start = c .before .before .before .before in
-      let a = start .args in
-      let p = start .pre .1 in
-      own-stops (l .inputs) (l .wires) (a .sheet .now .now) (a .level) (a .asked) (a .at) (a .count) (c .refused2 .ensures)
-      (own-unknown (l .inputs) (l .wires) (a .sheet .now .now) (a .asked) (a .at) (a .count) (a .level)
-      (c .before .before .before .if1 .left) (c .before .if2 .taken))
+  above : check-one-lts.Need-returns-2 (check-one-calls t) (check-one-at t) check-one.Post
+  above c = λ l. c .check-above .ensures l _ _ _
 
-  deep-requires : check-one-lts.Need-refused-requires-3 (check-one-calls t) (check-one-at t) check-one.Post
+  deep-requires : check-one-lts.Need-refused-requires-2 (check-one-calls t) (check-one-at t) check-one.Post
   deep-requires c κs = search needs
 
   deep : check-one-lts.Need-returns-3 (check-one-calls t) (check-one-at t) check-one.Post
   deep c = λ l.
       let start = c .before .before .before .before .before in
       let a = start .args in
-      let p = start .pre .1 in
-      own-stops (l .inputs) (l .wires) (a .sheet .now .now) (a .level) (a .asked) (a .at) (a .count) (c .refused3 .ensures)
+      own-stops (l .inputs) (l .wires) (a .sheet .now .now) (a .level) (a .asked) (a .at) (a .count) (c .refused2 .ensures)
       (own-deep (l .inputs) (l .wires) (a .sheet .now .now) (a .asked) (a .at) (a .count) (a .level)
-      (c .before .before .before .before .if1 .left) (c .before .before .if2 .left) (c .before .if3 .taken))
+      (c .before .before .before .before .if1 .left) (omega (arith, c .before .before .if2 .left)) (c .before .if3 .taken))
 
   leaf-requires : check-one-lts.Need-check-leaf-requires (check-one-calls t) (check-one-at t) check-one.Post
   leaf-requires c κs =
@@ -210,9 +213,9 @@ module _ (t : ℕ) where
       let start = c .before .before .before .before .before .before .before .before in
       let a = start .args in
       let p = start .pre .1 in
-      leaf-checks (l .inputs) (l .wires) (a .sheet .now .now) (a .level) (a .asked) (a .at) (a .count)
+      bare-checks (l .inputs) (l .wires) (a .sheet .now .now) (a .level) (a .asked) (a .at) (a .count)
       (omega (arith, c .before .before .before .before .if3 .left)) (c .before .before .before .before .before .before .before .if1 .left)
-      (c .before .before .before .if4 .taken)
+      (leaf-bare _ (c .before .before .before .if4 .taken))
       (c .check-leaf .ensures l)
 
   node-requires : check-one-lts.Need-check-node-requires (check-one-calls t) (check-one-at t) check-one.Post
@@ -231,6 +234,7 @@ module _ (t : ℕ) where
             room = p .2;
             few = p .3;
           },
+          p .4,
         ),
       )
 
@@ -254,9 +258,10 @@ module _ (t : ℕ) where
   operand-leaf : check-operand-lts.Need-returns-2 (check-operand-calls t) (check-operand-at t) check-operand.Post
   operand-leaf c = λ l.
       let a = c .before .before .before .before .before .before .before .args in
-      leaf-checks (l .inputs) (l .wires) (a .sheet .now .now) (a .level) (a .asked) (a .at) (a .count)
+      bare-checks (l .inputs) (l .wires) (a .sheet .now .now) (a .level) (a .asked) (a .at) (a .count)
       (omega (arith, c .before .before .before .before .before .before .if1 .left))
-      (leb-false _ _ (c .before .before .before .before .before .if2 .left)) (leb-false 4 _ (c .before .before .before .if3 .left))
+      (leb-false _ _ (c .before .before .before .before .before .if2 .left))
+      (leaf-bare _ (leb-false 4 _ (c .before .before .before .if3 .left)))
       (c .check-leaf .ensures l)
 
   operands-requires :
@@ -277,6 +282,7 @@ module _ (t : ℕ) where
       let nothing-less : c .before .read-operands .result - 0 ≡ c .before .read-operands .result = omega arith in (
         omega arith,
         p .3,
+        p .5,
         λ l. (
           refl,
           λ es n k e. record {
@@ -303,6 +309,7 @@ module _ (t : ℕ) where
           omega (arith, c .before .before .operand-type .ensures),
           c .before .before .before .before .before .loop .inv .1,
           p .4,
+          c .before .before .before .before .before .loop .inv .2,
         ),
       )
 
@@ -338,7 +345,7 @@ module _ (t : ℕ) where
       let one = rw (asked .0) at (c .before .before .check-operand .ensures l) in
       let refused = e
       ∙ each-refused read (operandsOf (a .kind) (a .asked)) (o .i) (o .next) (o .behind) (asked .1) (sym (one .answers) ∙ e)
-      ∙ o .inv .2 l .0 in
+      ∙ o .inv .3 l .0 in
       rw e (refused-checks (sym e ∙ refused))
 
   either-requires : check-operands-lts.Need-either-requires (check-operands-calls t) (check-operands-at t) check-operands.Post Inv μ-loop
@@ -361,18 +368,20 @@ module _ (t : ℕ) where
       let got-it = c .before .before .one .given .1 in
       let counted = turn .before .before .before .before .operands .ensures in
       let reads = turn .before .before .before .read-operands .ensures in
-      let l = start .pre .1 .0 in (
+      let l = start .pre .1 .0 in
+      let read-one = extent (l .inputs) (l .wires) (a .sheet .now .now) (a .level) _ (o .next) (o .behind)
+      (c .before .before .before .before .check-operand .ensures l) got-it in (
         omega arith,
-        limit (l .inputs) (l .wires) (a .sheet .now .now) (a .level) _ (o .next) (o .behind)
-            (c .before .before .before .before .check-operand .ensures l) got-it,
+        read-one .1 .limited,
+        omega (arith, read-one .1 .counted, o .inv .2),
         λ l.
             let read = readExpression (l .inputs) (l .wires) (a .sheet .now .now) (a .level) in
             let one = rw (asked .0) at (c .before .before .before .before .check-operand .ensures l) in (
               each-good read (operandsOf (a .kind) (a .asked)) (o .i) (o .next) (o .behind) (asked .1) (sym (one .answers) ∙ got-it)
-                  ∙ o .inv .2 l .0,
+                  ∙ o .inv .3 l .0,
               λ es n k r. rw (c .either .ensures) (left-step (l .inputs) (l .wires) (a .sheet .now .now) (a .level)
-                  (operandsOf (a .kind) (a .asked)) _ (o .i) (o .next) (o .behind)
-                  (asked .1) got-it one (o .inv .2 l .1 es n k r)),
+                  (aheadIn (a .names .now)) (operandsOf (a .kind) (a .asked)) _ (o .i) (o .next) (o .behind)
+                  (asked .1) (o .inv .2) got-it one (o .inv .3 l .1 es n k r)),
             ),
       )
 
@@ -386,11 +395,12 @@ module _ (t : ℕ) where
       let over : length (operandsOf (a .kind) (a .asked)) ≤ o .i =
       omega (arith, operands-counted (a .asked) (a .kind) (start .pre .1 .1), counted, c .loop-test .left) in
       record {
-        answers = rw (drop-of-length-le (operandsOf (a .kind) (a .asked)) over) at (o .inv .2 l .0);
-        cells = λ es n k e. left-none (l .inputs) (l .wires) (a .sheet .now .now) (a .level) (operandsOf (a .kind) (a .asked)) (o .i)
-            (o .next) (o .behind) over (o .inv .2 l .1 es n k e) .0;
+        answers = rw (drop-of-length-le (operandsOf (a .kind) (a .asked)) over) at (o .inv .3 l .0);
+        cells = λ es n k e. left-none (l .inputs) (l .wires) (a .sheet .now .now) (a .level) (aheadIn (a .names .now))
+            (operandsOf (a .kind) (a .asked)) (o .i) (o .next) (o .behind) over (o .inv .3 l .1 es n k e) .0;
         reads = λ es n k e. rw (c .before .before .before .read-operands .ensures) at (left-none (l .inputs) (l .wires) (a .sheet .now .now)
-            (a .level) (operandsOf (a .kind) (a .asked)) (o .i) (o .next) (o .behind) over (o .inv .2 l .1 es n k e) .1);
+            (a .level) (aheadIn (a .names .now)) (operandsOf (a .kind) (a .asked)) (o .i) (o .next) (o .behind) over
+            (o .inv .3 l .1 es n k e) .1);
       }
 
   own-requires : check-node-lts.Need-check-own-requires (check-node-calls t) (check-node-at t) check-node.Post
@@ -411,7 +421,8 @@ module _ (t : ℕ) where
   node-is c l =
       let a = c .before .before .args in
       let n = c .before .before .pre .1 .1 in
-      own-passed (l .inputs) (l .wires) (a .sheet .now .now) (a .asked) (a .at) (a .count) (a .level) (n .byte) (n .kind) (n .levels)
+      own-passed (l .inputs) (l .wires) (a .sheet .now .now) (a .asked) (a .at) (a .count) (a .level) (n .byte) (omega (arith, n .kind))
+      (n .levels)
       ∙ sym (c .check-own .ensures (l .inputs) (l .wires) (a .asked))
 
   node-stops : check-node-lts.Need-returns (check-node-calls t) (check-node-at t) check-node.Post
@@ -425,7 +436,8 @@ module _ (t : ℕ) where
   node-kind c = c .before .before .before .before .before .pre .1 .1 .byte
 
   node-fits-requires : check-node-lts.Need-fits-requires (check-node-calls t) (check-node-at t) check-node.Post
-  node-fits-requires c κs = let node = c .before .before .before .before .before .before .pre .1 .1 in (node .kind, node .asked)
+  node-fits-requires c κs =
+      let node = c .before .before .before .before .before .before .pre .1 .1 in (omega (arith, node .kind), node .asked)
 
   node-wrong-requires : check-node-lts.Need-refused-requires (check-node-calls t) (check-node-at t) check-node.Post
   node-wrong-requires c κs = search needs
@@ -438,46 +450,66 @@ module _ (t : ℕ) where
       (rw (c .before .before .before .before .before .own .given .1) at (node-is cell l)
       ∙ type-wrong (getD (a .sheet .now .now) (a .at) 0) (a .asked) (a .at) _ _ (c .before .before .fits2 .ensures) (c .before .if1 .taken))
 
+  node-ahead-requires : check-node-lts.Need-ahead-requires (check-node-calls t) (check-node-at t) check-node.Post
+  node-ahead-requires c κs = search needs
+
+  node-number : check-node-lts.Need-sub-number (check-node-calls t) (check-node-at t) check-node.Post
+  node-number c = omega (arith, c .ahead .ensures, c .before .before .before .before .before .before .before .before .before .pre .1 .2)
+
+  -- an expression's own bytes are good
+  node-own : (c : check-node-lts.Else1 (check-node-calls t) (check-node-at t) check-node.Post)
+      (l : Lookup (c .before .before .before .before .before .before .before .before .args .names .now))
+      → let a = c .before .before .before .before .before .before .before .before .args in
+      let own = c .before .before .before .before .own .given .0 in
+      ownOf (l .inputs) (l .wires) (a .sheet .now .now) (a .level) (a .asked) (a .at) (a .count) ≡ Got (own .0) (own .1 .0)
+  node-own c l =
+      let a = c .before .before .before .before .before .before .before .before .args in
+      rw (c .before .before .before .before .own .given .1) at (node-is (c .before .before .before .before .before .before) l)
+      ∙ type-right (getD (a .sheet .now .now) (a .at) 0) (a .asked) (a .at) _ _ (c .before .fits2 .ensures) (c .if1 .left)
+
   note-requires : check-node-lts.Need-note-own-requires (check-node-calls t) (check-node-at t) check-node.Post
   note-requires c κs =
-      let p = c .before .before .before .before .before .before .before .before .before .pre .1 in
-      let n = p .1 in
-      let l = p .0 in
-      let a = c .before .before .before .before .before .before .before .before .before .args in
-      let cell = c .before .before .before .before .before .before .before in
-      let own = rw (c .before .before .before .before .before .own .given .1) at (node-is cell l)
-      ∙ type-right (getD (a .sheet .now .now) (a .at) 0) (a .asked) (a .at) _ _ (c .before .before .fits2 .ensures)
-      (c .before .if1 .left) in
-      let g = own-good (l .inputs) (l .wires) (a .sheet .now .now) (a .level) (a .asked) (a .at) (a .count) own in
+      let start = c .before .before .before .before .before .before .before .before .before .before in
+      let n = start .pre .1 .1 in
+      let l = start .pre .1 .0 in
+      let a = start .args in
+      let g = own-good (l .inputs) (l .wires) (a .sheet .now .now) (a .level) (a .asked) (a .at) (a .count)
+      (node-own (c .before .before) l) in
       (n .operands, n .kind, n .asked, omega (arith, n .byte, n .few), λ e. omega (arith, g .cells, owner-cells _ e (n .kind)))
 
   node-level : check-node-lts.Need-sub-check-operands (check-node-calls t) (check-node-at t) check-node.Post
-  node-level c = c .before .before .before .before .before .before .before .before .before .before .pre .1 .1 .levels
+  node-level c = c .before .before .before .before .before .before .before .before .before .before .before .pre .1 .1 .levels
 
   node-operands-requires : check-node-lts.Need-check-operands-requires (check-node-calls t) (check-node-at t) check-node.Post
   node-operands-requires c κs =
-      let p = c .before .before .before .before .before .before .before .before .before .before .before .before .pre .1 in
+      let start = c .before .before .before .before .before .before .before .before .before .before .before .before .before in
+      let p = start .pre .1 in
       let n = p .1 in
       let l = p .0 in
-      let a = c .before .before .before .before .before .before .before .before .before .before .before .before .args in
-      let cell = c .before .before .before .before .before .before .before .before .before .before in
-      let own = rw (c .before .before .before .before .before .before .before .before .own .given .1) at (node-is cell l)
-      ∙ type-right (getD (a .sheet .now .now) (a .at) 0) (a .asked) (a .at) _ _ (c .before .before .before .before .before .fits2 .ensures)
-      (c .before .before .before .before .if1 .left) in
-      let g = own-good (l .inputs) (l .wires) (a .sheet .now .now) (a .level) (a .asked) (a .at) (a .count) own in
-      (omega (arith, n .levels), (p .0, n .kind, n .asked, omega (arith, g .cells, g .count), n .few))
+      let a = start .args in
+      let g = own-good (l .inputs) (l .wires) (a .sheet .now .now) (a .level) (a .asked) (a .at) (a .count)
+      (node-own (c .before .before .before .before .before) l) in (
+        omega (arith, n .levels),
+        (
+          p .0,
+          omega (arith, n .kind),
+          n .asked,
+          omega (arith, g .cells, g .count),
+          n .few,
+          omega (arith, g .count, p .2),
+        ),
+      )
 
   node-whole : check-node-lts.Need-returns-3 (check-node-calls t) (check-node-at t) check-node.Post
   node-whole c = λ l.
-      let cell = c .before .before .before .before .before .before .before .before .before .before .before in
-      let start = cell .before .before in
+      let start = c .before .before .before .before .before .before .before .before .before .before .before .before .before .before in
       let a = start .args in
-      let n = start .pre .1 .1 in
-      let own = rw (c .before .before .before .before .before .before .before .before .before .own .given .1) at (node-is cell l)
-      ∙ type-right (getD (a .sheet .now .now) (a .at) 0) (a .asked) (a .at) _ _
-      (c .before .before .before .before .before .before .fits2 .ensures) (c .before .before .before .before .before .if1 .left) in
-      whole-checks (l .inputs) (l .wires) (a .sheet .now .now) (a .level) (a .asked) (a .at) (a .count) (n .asked) (n .operands) own
-      (c .before .before .before .note-own .ensures) (c .check-operands .ensures l)
+      let p = start .pre .1 in
+      let n = p .1 in
+      whole-checks (l .inputs) (l .wires) (a .sheet .now .now) (aheadIn (a .names .now)) (a .level) (a .asked) (a .at) (a .count) (n .asked)
+      (n .few) (p .2) (n .operands) (node-own (c .before .before .before .before .before .before) l)
+      (rw (c .before .before .before .before .before .ahead .ensures) at (c .before .before .before .note-own .ensures))
+      (c .check-operands .ensures l)
 
 pub +check-node+check-one+check-operand+check-operands-spec : {M : Type 1} → statement M
 +check-node+check-one+check-operand+check-operands-spec =
@@ -493,6 +525,8 @@ pub +check-node+check-one+check-operand+check-operands-spec : {M : Type 1} → s
     (node-fits-requires t)
     (node-wrong-requires t)
     (node-wrong t)
+    (node-ahead-requires t)
+    (node-number t)
     (note-requires t)
     (node-level t)
     (node-operands-requires t)
@@ -503,8 +537,8 @@ pub +check-node+check-one+check-operand+check-operands-spec : {M : Type 1} → s
     (missing-requires t)
     (missing t)
     (read-kind t)
-    (unknown-requires t)
-    (unknown t)
+    (above-requires t)
+    (above t)
     (deep-requires t)
     (deep t)
     (leaf-requires t)

@@ -20,19 +20,14 @@ loop-holds : tie.Need-loop-holds Inv-loop μ-loop
 loop-holds c =
     (refl, λ p. sets-all _ _ (start-length (p .forms) ∙ omega (arith, p .counted, c .before .before .pre .1)))
 
-mul-owner : tie.Need-mul-owner Inv-loop μ-loop
-mul-owner c = omega arith
+mul-start-cell : tie.Need-mul-start-cell Inv-loop μ-loop
+mul-start-cell c = omega arith
 
-element-copy-out-owner : tie.Need-element-copy-out-owner Inv-loop μ-loop
-element-copy-out-owner c = omega (arith, c .before .before .before .before .pre .0 .few)
+element-copy-out-start-cell : tie.Need-element-copy-out-start-cell Inv-loop μ-loop
+element-copy-out-start-cell c = omega (arith, c .before .before .before .before .before .pre .0 .few)
 
-cast-owner : tie.Need-cast-owner Inv-loop μ-loop
-cast-owner c =
-    let start = c .before .before .before .before .before in
-    omega (arith, noted-at (start .pre .0) (c .before .before .loop .k) (c .before .loop-test .taken) .owner .ends, start .good)
-
-own-cell-requires : tie.Need-own-cell-requires Inv-loop μ-loop
-own-cell-requires c κs =
+start-cell-requires : tie.Need-start-cell-requires Inv-loop μ-loop
+start-cell-requires c κs =
     noted-at (c .before .before .before .before .before .before .pre .0) _ (c .before .before .loop-test .taken) .owner
 
 put-cell-requires : tie.Need-put-cell-requires Inv-loop μ-loop
@@ -52,7 +47,8 @@ loop-again c =
     let turn = put .before .before .before .before in
     let l = turn .before .loop in (
       put .put-cell .kept .0 ∙ l .inv .0,
-      λ p. next-put p (l .k) (l .memory) _ _ (turn .loop-test .taken) (put .before .own-cell .ensures) (put .put-cell .ensures) (l .inv .1 p),
+      λ p. next-put p (l .k) (l .memory) _ _ (turn .loop-test .taken) (put .before .start-cell .ensures) (put .put-cell .ensures)
+          (l .inv .1 p),
     )
 
 same-length : tie.Need-same-length Inv-loop μ-loop
@@ -68,10 +64,9 @@ fill-spec =
     Inv-loop
     μ-loop
     loop-holds
-    mul-owner
-    element-copy-out-owner
-    cast-owner
-    own-cell-requires
+    mul-start-cell
+    element-copy-out-start-cell
+    start-cell-requires
     put-cell-requires
     add-k
     loop-less

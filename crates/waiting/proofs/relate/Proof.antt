@@ -4,7 +4,7 @@ use mathlib.Core.Path.{_≡_, refl}
 use native.Mathlib.Omega.{arith}
 use lib.ListN.{length, length-set}
 use Rattle.closure.specs.Closures.{Rows}
-use Rattle.leaves.specs.Words.{inputWords}
+use Rattle.leaves.specs.Words.{fixedWords}
 use Rattle.rounds.specs.Running.{RunningUnder}
 use Rattle.waiting.specs.Waiting.{waitsIn}
 use Rattle.waiting.proofs.Relating.{next-row}
@@ -14,7 +14,7 @@ use Rattle.waiting.proofs.relate.Tie as tie
 abbrev Inv-loop : tie.InvT-loop
 Inv-loop sheet memory types places firsts known words sets₀ w₀ sets w =
     (w ≤ length types) × (length sets ≡ length sets₀)
-    × ((u : RunningUnder sheet memory (inputWords words) types places firsts (known .bits) words) → Rows (waitsIn u) w sets)
+    × ((u : RunningUnder sheet memory (fixedWords words) types places firsts (known .bits) words) → Rows (waitsIn u) w sets)
 
 abbrev μ-loop : tie.MeasureT-loop
 μ-loop sheet memory types places firsts known words sets₀ w₀ sets w = length types - w

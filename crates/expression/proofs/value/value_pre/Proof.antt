@@ -1,17 +1,10 @@
 -- `value_pre` meets its contract.
-use mathlib.Core.Path.{refl}
 use native.Mathlib.Omega.{arith}
-use Rattle.expression.specs.Places.{known}
 use Rattle.expression.proofs.Views.{opened, whole, readable, pre-view, own-cell}
 use Rattle.expression.proofs.Answers.{pre-answer}
 use borrow.Author.Needs.{needs}
 use Rattle.expression.proofs.value.value_pre.Statement.{statement}
 use Rattle.expression.proofs.value.value_pre.Tie as tie
-use Rattle.expression.proofs.value.value_pre.Reads as reads
-use Rattle.expression.proofs.value.value_pre.Lts as lts
-use Rattle.leaves.proofs.cells.pre_word.Reads as pre-word-reads
-use Rattle.sheet.proofs.kinds.body.Reads as body-reads
-use Rattle.sheet_walk.proofs.skip.skip.Reads as skip-reads
 
 add-first : tie.Need-add-first
 add-first c = omega (arith, opened (c .before .pre .0 .1) .good .starts)
@@ -31,7 +24,7 @@ add-inner c = omega (arith, opened (c .before .before .before .pre .0 .1) .good 
 pre-word-requires : tie.Need-pre-word-requires
 pre-word-requires c κs =
     let p = c .before .before .before .before .pre in
-    (whole (p .0 .1), own-cell (p .0 .1) (p .1 .0) .stands .fits)
+    (whole (p .0 .1), own-cell (p .0 .1) (p .1 .0) (omega (arith, p .1 .1)) .stands .fits)
 
 skip-requires : tie.Need-skip-requires
 skip-requires c κs =

@@ -6,17 +6,13 @@ use native.Mathlib.Omega.{arith}
 use lib.ListN.{length, getD, set, length-set}
 use lib.Seq.{getD-set-same, getD-set-other}
 use borrow.Author.Count.{below-more}
-use borrow.Author.Needs.{needs}
 use Rattle.sheet.specs.Rows.{entryAt}
-use Rattle.leaves.specs.Words.{firstInput, InputsPut}
+use Rattle.leaves.specs.Words.{firstInput, wordCount, InputsPut}
 use Rattle.leaves.proofs.inputs.put_inputs.Statement.{statement}
 use Rattle.leaves.proofs.inputs.put_inputs.Tie as tie
-use Rattle.leaves.proofs.inputs.put_inputs.Reads as reads
-use Rattle.leaves.proofs.inputs.put_inputs.Lts as lts
-use Rattle.numbers.proofs.word_at.Reads as word-at-reads
 
 -- one entry more
-put-one : (input words : List ℕ) (i word : ℕ) → length words ≡ 80 → i < 16 → word ≡ entryAt input i
+put-one : (input words : List ℕ) (i word : ℕ) → length words ≡ wordCount → i < 16 → word ≡ entryAt input i
     → ((j : ℕ) → j < i → getD words (firstInput + j) 0 ≡ entryAt input j)
     → (j : ℕ) → j < i + 1 → getD (set words (firstInput + i) word) (firstInput + j) 0 ≡ entryAt input j
 put-one input words i word sized few is before =
@@ -26,7 +22,7 @@ put-one input words i word sized few is before =
 
 abbrev Inv-loop : tie.InvT-loop
 Inv-loop input words₀ count i₀ words i =
-    (i ≤ count) × (length words ≡ 80) × ((j : ℕ) → j < i → getD words (firstInput + j) 0 ≡ entryAt input j)
+    (i ≤ count) × (length words ≡ wordCount) × ((j : ℕ) → j < i → getD words (firstInput + j) 0 ≡ entryAt input j)
 
 abbrev μ-loop : tie.MeasureT-loop
 μ-loop input words₀ count i₀ words i = count - i

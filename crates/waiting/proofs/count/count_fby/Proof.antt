@@ -13,7 +13,7 @@ add-inner : tie.Need-add-inner
 add-inner c = omega (arith, opened (c .before .pre .0 .1) .good .cells)
 
 is-seen-requires : tie.Need-is-seen-requires
-is-seen-requires c κs = let b = c .before .before in own-cell (b .pre .0 .1) (omega (arith, b .pre .1)) .stands .fits
+is-seen-requires c κs = let b = c .before .before in own-cell (b .pre .0 .1) (omega (arith, b .pre .1)) (omega (arith, b .pre .1)) .stands .fits
 
 returns : tie.Need-returns
 returns c =

@@ -6,36 +6,36 @@ use native.Mathlib.Omega.{arith}
 use borrow.Author.Needs.{needs}
 use borrow.Fn.Kinds.{In}
 use borrow.Fn.PlainCycle.{Measures, is, falls, and}
-use Rattle.expression.proofs.Views.{opened, whole, leaf-of, own-cell}
+use Rattle.expression.proofs.Views.{opened, whole, leaf-of, last-of, own-cell, below-last, only-fby}
 use Rattle.expression.proofs.Views.{binary-view, conditional-view, present-view, reset-view, pre-view, fby-view}
 use Rattle.storing.proofs.Steps.{one-ready, two-ready, two-ready-2, three-ready, three-ready-2, three-ready-3}
 use Rattle.storing.proofs.Steps.{three-arm-2, three-arm-3, rest-ready-3}
-use Rattle.storing.proofs.Advancing.{leaf-advances, operation-ready, unary-advances, binary-advances, conditional-advances}
+use Rattle.storing.proofs.Advancing.{leaf-advances, last-advances, operation-ready, unary-advances, binary-advances, conditional-advances}
 use Rattle.storing.proofs.Advancing.{present-advances-first, present-advances-second, reset-advances, pre-advances, fby-advances}
 use Rattle.storing.proofs.advance.advance_by_kind.Reads as by-kind
 use Rattle.storing.proofs.advance.advance_by_kind.Kinds as by-kind-kinds
-use Rattle.storing.proofs.advance.+advance_by_kind+advance_conditional+advance_expression+advance_fby+advance_operation+advance_pre+advance_present+advance_reset.Lts-advance_by_kind as by-kind-lts
+use Rattle.storing.proofs.advance.+advance_by_kind+advance_conditional+advance_expression+advance_held+advance_operation+advance_pre+advance_present+advance_reset.Lts-advance_by_kind as by-kind-lts
 use Rattle.storing.proofs.advance.advance_conditional.Reads as conditional
 use Rattle.storing.proofs.advance.advance_conditional.Kinds as conditional-kinds
-use Rattle.storing.proofs.advance.+advance_by_kind+advance_conditional+advance_expression+advance_fby+advance_operation+advance_pre+advance_present+advance_reset.Lts-advance_conditional as conditional-lts
+use Rattle.storing.proofs.advance.+advance_by_kind+advance_conditional+advance_expression+advance_held+advance_operation+advance_pre+advance_present+advance_reset.Lts-advance_conditional as conditional-lts
 use Rattle.storing.proofs.advance.advance_expression.Reads as expression
 use Rattle.storing.proofs.advance.advance_expression.Kinds as expression-kinds
-use Rattle.storing.proofs.advance.+advance_by_kind+advance_conditional+advance_expression+advance_fby+advance_operation+advance_pre+advance_present+advance_reset.Lts-advance_expression as expression-lts
-use Rattle.storing.proofs.advance.advance_fby.Reads as fby
-use Rattle.storing.proofs.advance.advance_fby.Kinds as fby-kinds
-use Rattle.storing.proofs.advance.+advance_by_kind+advance_conditional+advance_expression+advance_fby+advance_operation+advance_pre+advance_present+advance_reset.Lts-advance_fby as fby-lts
+use Rattle.storing.proofs.advance.+advance_by_kind+advance_conditional+advance_expression+advance_held+advance_operation+advance_pre+advance_present+advance_reset.Lts-advance_expression as expression-lts
+use Rattle.storing.proofs.advance.advance_held.Reads as fby
+use Rattle.storing.proofs.advance.advance_held.Kinds as fby-kinds
+use Rattle.storing.proofs.advance.+advance_by_kind+advance_conditional+advance_expression+advance_held+advance_operation+advance_pre+advance_present+advance_reset.Lts-advance_held as fby-lts
 use Rattle.storing.proofs.advance.advance_operation.Reads as operation
 use Rattle.storing.proofs.advance.advance_operation.Kinds as operation-kinds
-use Rattle.storing.proofs.advance.+advance_by_kind+advance_conditional+advance_expression+advance_fby+advance_operation+advance_pre+advance_present+advance_reset.Lts-advance_operation as operation-lts
+use Rattle.storing.proofs.advance.+advance_by_kind+advance_conditional+advance_expression+advance_held+advance_operation+advance_pre+advance_present+advance_reset.Lts-advance_operation as operation-lts
 use Rattle.storing.proofs.advance.advance_pre.Reads as pre
 use Rattle.storing.proofs.advance.advance_pre.Kinds as pre-kinds
-use Rattle.storing.proofs.advance.+advance_by_kind+advance_conditional+advance_expression+advance_fby+advance_operation+advance_pre+advance_present+advance_reset.Lts-advance_pre as pre-lts
+use Rattle.storing.proofs.advance.+advance_by_kind+advance_conditional+advance_expression+advance_held+advance_operation+advance_pre+advance_present+advance_reset.Lts-advance_pre as pre-lts
 use Rattle.storing.proofs.advance.advance_present.Reads as present
 use Rattle.storing.proofs.advance.advance_present.Kinds as present-kinds
-use Rattle.storing.proofs.advance.+advance_by_kind+advance_conditional+advance_expression+advance_fby+advance_operation+advance_pre+advance_present+advance_reset.Lts-advance_present as present-lts
+use Rattle.storing.proofs.advance.+advance_by_kind+advance_conditional+advance_expression+advance_held+advance_operation+advance_pre+advance_present+advance_reset.Lts-advance_present as present-lts
 use Rattle.storing.proofs.advance.advance_reset.Reads as reset
 use Rattle.storing.proofs.advance.advance_reset.Kinds as reset-kinds
-use Rattle.storing.proofs.advance.+advance_by_kind+advance_conditional+advance_expression+advance_fby+advance_operation+advance_pre+advance_present+advance_reset.Lts-advance_reset as reset-lts
+use Rattle.storing.proofs.advance.+advance_by_kind+advance_conditional+advance_expression+advance_held+advance_operation+advance_pre+advance_present+advance_reset.Lts-advance_reset as reset-lts
 use Rattle.leaves.proofs.cells.is_seen.Reads as is-seen-reads
 use Rattle.leaves.proofs.cells.pre_word.Reads as pre-word-reads
 use Rattle.operations.proofs.binary.Reads as binary-reads
@@ -46,10 +46,11 @@ use Rattle.sheet.proofs.kinds.body.Reads as body-reads
 use Rattle.sheet.proofs.kinds.operation_type.Reads as operation-type-reads
 use Rattle.sheet.proofs.memory.put_cell.Reads as put-cell-reads
 use Rattle.sheet.proofs.memory.word_in.Reads as word-in-reads
+use Rattle.storing.proofs.advance.advance_last.Reads as last-reads
 use Rattle.storing.proofs.advance.advance_leaf.Reads as leaf-reads
 use Rattle.storing.proofs.rest.rest.Reads as rest-reads
-use Rattle.storing.proofs.advance.+advance_by_kind+advance_conditional+advance_expression+advance_fby+advance_operation+advance_pre+advance_present+advance_reset.{statement}
-use Rattle.storing.proofs.advance.+advance_by_kind+advance_conditional+advance_expression+advance_fby+advance_operation+advance_pre+advance_present+advance_reset.Tie.{close}
+use Rattle.storing.proofs.advance.+advance_by_kind+advance_conditional+advance_expression+advance_held+advance_operation+advance_pre+advance_present+advance_reset.{statement}
+use Rattle.storing.proofs.advance.+advance_by_kind+advance_conditional+advance_expression+advance_held+advance_operation+advance_pre+advance_present+advance_reset.Tie.{close}
 
 abbrev μ-by-kind : Measures 3 by-kind-kinds.ps ℕ
 μ-by-kind κs a = 3 * a .1 .1 .1 .0 + 1
@@ -159,6 +160,8 @@ by-kind-calls t = (
 
 abbrev fby-calls : ℕ → fby-lts.Claims
 fby-calls t = (
+  last-reads.Asked,
+  last-reads.Learnt,
   is-seen-reads.Asked,
   is-seen-reads.Learnt,
   word-in-reads.Asked,
@@ -310,10 +313,10 @@ module _ (t : ℕ) where
       let start = c .before .before .before .before .before .before .before .before in
       (omega (arith, start .pre .0), (start .pre .1, search needs))
 
-  by-kind-advance-fby-requires : by-kind-lts.Need-advance-fby-requires (by-kind-calls t) (by-kind-at t) by-kind.Post
-  by-kind-advance-fby-requires c κs =
+  by-kind-advance-held-requires : by-kind-lts.Need-advance-held-requires (by-kind-calls t) (by-kind-at t) by-kind.Post
+  by-kind-advance-held-requires c κs =
       let start = c .before .before .before .before .before .before .before .before in
-      (omega (arith, start .pre .0), (start .pre .1, omega (arith, opened (start .pre .1 .place) .good .kind)))
+      (omega (arith, start .pre .0), (start .pre .1, omega arith))
 
   by-kind-same-length : by-kind-lts.Need-same-length (by-kind-calls t) (by-kind-at t) by-kind.Post
   by-kind-same-length c = c .before .before .advance-conditional .kept .1 .0
@@ -351,43 +354,60 @@ module _ (t : ℕ) where
   by-kind-returns-6 c = c .before .before .advance-pre .ensures
 
   by-kind-same-length-6 : by-kind-lts.Need-same-length-6 (by-kind-calls t) (by-kind-at t) by-kind.Post
-  by-kind-same-length-6 c = c .before .before .advance-fby .kept .1 .0
+  by-kind-same-length-6 c = c .before .before .advance-held .kept .1 .0
 
   by-kind-returns-7 : by-kind-lts.Need-returns-7 (by-kind-calls t) (by-kind-at t) by-kind.Post
-  by-kind-returns-7 c = c .before .before .advance-fby .ensures
+  by-kind-returns-7 c = c .before .before .advance-held .ensures
+
+  fby-shared-slice-read-if1 : fby-lts.Need-shared-slice-read-if1 (fby-calls t) (fby-at t) fby.Post
+  fby-shared-slice-read-if1 c = opened (c .before .before .before .pre .1 .0 .place) .good .starts
+
+  fby-advance-last-requires : fby-lts.Need-advance-last-requires (fby-calls t) (fby-at t) fby.Post
+  fby-advance-last-requires c κs = last-of (c .before .before .before .before .pre .1 .0 .place) (c .if1 .taken)
+
+  fby-returns : fby-lts.Need-returns (fby-calls t) (fby-at t) fby.Post
+  fby-returns c =
+      let start = c .before .before .before .before .before in
+      λ p. last-advances p (start .args .fresh) (c .before .if1 .taken) (c .advance-last .ensures)
 
   fby-sub-below : fby-lts.Need-sub-below (fby-calls t) (fby-at t) fby.Post
-  fby-sub-below c = opened (c .before .before .pre .1 .0 .place) .level-left
+  fby-sub-below c = opened (c .before .before .before .before .pre .1 .0 .place) .level-left
 
   fby-add-first : fby-lts.Need-add-first (fby-calls t) (fby-at t) fby.Post
-  fby-add-first c = omega (arith, opened (c .before .before .pre .1 .0 .place) .good .starts)
+  fby-add-first c = omega (arith, opened (c .before .before .before .before .pre .1 .0 .place) .good .starts)
 
   fby-add-inner : fby-lts.Need-add-inner (fby-calls t) (fby-at t) fby.Post
-  fby-add-inner c = omega (arith, opened (c .before .before .pre .1 .0 .place) .good .cells)
+  fby-add-inner c = omega (arith, opened (c .before .before .before .before .pre .1 .0 .place) .good .cells)
 
   fby-is-seen-requires : fby-lts.Need-is-seen-requires (fby-calls t) (fby-at t) fby.Post
   fby-is-seen-requires c κs =
-      let start = c .before .before .before in
-      own-cell (start .pre .1 .0 .place) (omega (arith, start .pre .1 .1)) .stands .fits
+      let kind = c .before in
+      let start = kind .before .before .before .before in
+      let p = start .pre .1 .0 .place in
+      own-cell p (omega (arith, start .pre .1 .1)) (below-last (opened p .good .kind) (kind .if1 .left)) .stands .fits
 
   fby-word-in-requires : fby-lts.Need-word-in-requires (fby-calls t) (fby-at t) fby.Post
   fby-word-in-requires c κs =
-      let start = c .before .before .before .before .before in
-      own-cell (start .pre .1 .0 .place) (omega (arith, start .pre .1 .1)) .stands .fits
+      let kind = c .before .before .before in
+      let start = kind .before .before .before .before in
+      let p = start .pre .1 .0 .place in
+      own-cell p (omega (arith, start .pre .1 .1)) (below-last (opened p .good .kind) (kind .if1 .left)) .stands .fits
 
   fby-advance-expression-requires : fby-lts.Need-advance-expression-requires (fby-calls t) (fby-at t) fby.Post
   fby-advance-expression-requires c κs =
-      let start = c .before .before .before .before .before .before .before in
+      let kind = c .before .before .before .before .before in
+      let start = kind .before .before .before .before in
       let p = start .pre .1 .0 in
-      let w = fby-view (p .place) (start .pre .1 .1) in
+      let w = fby-view (p .place) (only-fby (start .pre .1 .1) (opened (p .place) .good .kind) (kind .if1 .left)) in
       (omega (arith, start .pre .0, opened (p .place) .level-left), two-ready p w)
 
   fby-advance-expression-requires-2 : fby-lts.Need-advance-expression-requires-2 (fby-calls t) (fby-at t) fby.Post
   fby-advance-expression-requires-2 c κs =
       let first = c .before .before .before in
-      let start = first .before .before .before .before .before .before .before .before in
+      let kind = first .before .before .before .before .before .before in
+      let start = kind .before .before .before .before in
       let p = start .pre .1 .0 in
-      let w = fby-view (p .place) (start .pre .1 .1) in
+      let w = fby-view (p .place) (only-fby (start .pre .1 .1) (opened (p .place) .good .kind) (kind .if1 .left)) in
       (omega (arith, start .pre .0, opened (p .place) .level-left), two-ready-2 p w (first .advance-expression .ensures))
 
   fby-datum-of-requires : fby-lts.Need-datum-of-requires (fby-calls t) (fby-at t) fby.Post
@@ -397,8 +417,10 @@ module _ (t : ℕ) where
   fby-put-cell-requires c κs =
       let second = c .before .before .before .before in
       let first = second .before .before .before .before in
-      let start = first .before .before .before .before .before .before .before .before in
-      let own = own-cell (start .pre .1 .0 .place) (omega (arith, start .pre .1 .1)) in
+      let kind = first .before .before .before .before .before .before in
+      let start = kind .before .before .before .before in
+      let p = start .pre .1 .0 .place in
+      let own = own-cell p (omega (arith, start .pre .1 .1)) (below-last (opened p .good .kind) (kind .if1 .left)) in
       omega (arith, own .stands .fits, second .advance-expression2 .kept .1 .0, first .advance-expression .kept .1 .0)
 
   fby-choose-requires : fby-lts.Need-choose-requires (fby-calls t) (fby-at t) fby.Post
@@ -411,17 +433,18 @@ module _ (t : ℕ) where
       let first = second .before .before .before .before in
       put .put-cell .kept .0 ∙ second .advance-expression2 .kept .1 .0 ∙ first .advance-expression .kept .1 .0
 
-  fby-returns : fby-lts.Need-returns (fby-calls t) (fby-at t) fby.Post
-  fby-returns c =
+  fby-returns-2 : fby-lts.Need-returns-2 (fby-calls t) (fby-at t) fby.Post
+  fby-returns-2 c =
       let put = c .before .before .before in
       let datum = put .before in
       let second = datum .before .before .before .before in
       let first = second .before .before .before .before in
-      let kept = first .before .before in
-      let seen = kept .before .before in
-      let start = seen .before .before .before .before in
-      λ p. fby-advances p (start .args .fresh) (start .pre .1 .1)
-      (seen .is-seen .ensures) (kept .word-in .ensures) (first .advance-expression .ensures) (second .advance-expression2 .ensures)
+      let held = first .before .before in
+      let seen = held .before .before in
+      let kind = seen .before .before in
+      let start = kind .before .before .before .before in
+      λ p. fby-advances p (start .args .fresh) (only-fby (start .pre .1 .1) (opened (p .place) .good .kind) (kind .if1 .left))
+      (seen .is-seen .ensures) (held .word-in .ensures) (first .advance-expression .ensures) (second .advance-expression2 .ensures)
       (datum .datum-of .ensures) (put .put-cell .ensures) (c .choose .ensures)
 
   operation-shared-slice-read-kind : operation-lts.Need-shared-slice-read-kind (operation-calls t) (operation-at t) operation.Post
@@ -515,7 +538,7 @@ module _ (t : ℕ) where
   pre-pre-word-requires c κs =
       let start = c .before .before .before .before .before in
       let place = start .pre .1 .0 .place in
-      (whole place, own-cell place (start .pre .1 .1 .0) .stands .fits)
+      (whole place, own-cell place (start .pre .1 .1 .0) (omega (arith, start .pre .1 .1)) .stands .fits)
 
   pre-advance-expression-requires : pre-lts.Need-advance-expression-requires (pre-calls t) (pre-at t) pre.Post
   pre-advance-expression-requires c κs =
@@ -532,7 +555,7 @@ module _ (t : ℕ) where
   pre-put-cell-requires c κs =
       let first = c .before .before .before .before in
       let start = first .before .before .before .before .before .before .before .before in
-      let own = own-cell (start .pre .1 .0 .place) (start .pre .1 .1 .0) in
+      let own = own-cell (start .pre .1 .0 .place) (start .pre .1 .1 .0) (omega (arith, start .pre .1 .1)) in
       omega (arith, own .stands .fits, first .advance-expression .kept .1 .0)
 
   pre-same-length : pre-lts.Need-same-length (pre-calls t) (pre-at t) pre.Post
@@ -691,16 +714,16 @@ module _ (t : ℕ) where
   expression-returns-2 : expression-lts.Need-returns-2 (expression-calls t) (expression-at t) expression.Post
   expression-returns-2 c = c .before .before .advance-by-kind .ensures
 
-pub +advance-by-kind+advance-conditional+advance-expression+advance-fby+advance-operation+advance-pre+advance-present+advance-reset-spec : {M : Type 1} → statement M
-+advance-by-kind+advance-conditional+advance-expression+advance-fby+advance-operation+advance-pre+advance-present+advance-reset-spec =
+pub +advance-by-kind+advance-conditional+advance-expression+advance-held+advance-operation+advance-pre+advance-present+advance-reset-spec : {M : Type 1} → statement M
++advance-by-kind+advance-conditional+advance-expression+advance-held+advance-operation+advance-pre+advance-present+advance-reset-spec =
     close μ-by-kind μ-conditional μ-expression μ-fby μ-operation μ-pre μ-present μ-reset
     (λ t. by-kind-lts.spec (by-kind-calls t) (by-kind-at t) by-kind.Post
     (by-kind-shared-slice-read-match t) (by-kind-advance-conditional-requires t) (by-kind-advance-present-requires t)
     (by-kind-advance-reset-requires t) (by-kind-advance-leaf-requires t) (by-kind-advance-operation-requires t)
-    (by-kind-advance-pre-requires t) (by-kind-advance-fby-requires t) (by-kind-same-length t) (by-kind-returns t)
-    (by-kind-same-length-2 t) (by-kind-returns-2 t) (by-kind-same-length-3 t) (by-kind-returns-3 t) (by-kind-returns-4 t)
-    (by-kind-same-length-4 t) (by-kind-returns-5 t) (by-kind-same-length-5 t) (by-kind-returns-6 t)
-    (by-kind-same-length-6 t) (by-kind-returns-7 t))
+    (by-kind-advance-pre-requires t) (by-kind-advance-held-requires t)
+    (by-kind-same-length t) (by-kind-returns t) (by-kind-same-length-2 t) (by-kind-returns-2 t) (by-kind-same-length-3 t)
+    (by-kind-returns-3 t) (by-kind-returns-4 t) (by-kind-same-length-4 t) (by-kind-returns-5 t) (by-kind-same-length-5 t)
+    (by-kind-returns-6 t) (by-kind-same-length-6 t) (by-kind-returns-7 t))
     (λ t. conditional-lts.spec (conditional-calls t) (conditional-at t) conditional.Post
     (conditional-sub-below t) (conditional-add-first t) (conditional-advance-expression-requires t)
     (conditional-advance-expression-requires-2 t) (conditional-advance-expression-requires-3 t)
@@ -709,9 +732,10 @@ pub +advance-by-kind+advance-conditional+advance-expression+advance-fby+advance-
     (expression-shared-slice-read-if1 t) (expression-advance-leaf-requires t) (expression-returns t)
     (expression-advance-by-kind-requires t) (expression-same-length t) (expression-returns-2 t))
     (λ t. fby-lts.spec (fby-calls t) (fby-at t) fby.Post
-    (fby-sub-below t) (fby-add-first t) (fby-add-inner t) (fby-is-seen-requires t) (fby-word-in-requires t)
-    (fby-advance-expression-requires t) (fby-advance-expression-requires-2 t) (fby-datum-of-requires t)
-    (fby-put-cell-requires t) (fby-choose-requires t) (fby-same-length t) (fby-returns t))
+    (fby-shared-slice-read-if1 t) (fby-advance-last-requires t) (fby-returns t) (fby-sub-below t) (fby-add-first t)
+    (fby-add-inner t) (fby-is-seen-requires t) (fby-word-in-requires t) (fby-advance-expression-requires t)
+    (fby-advance-expression-requires-2 t) (fby-datum-of-requires t) (fby-put-cell-requires t) (fby-choose-requires t)
+    (fby-same-length t) (fby-returns-2 t))
     (λ t. operation-lts.spec (operation-calls t) (operation-at t) operation.Post
     (operation-shared-slice-read-kind t) (operation-operation-type-requires t) (operation-sub-below t) (operation-add-first t)
     (operation-advance-expression-requires t) (operation-unary-requires t)

@@ -8,10 +8,10 @@ use borrow.Author.Tests.{not-true, not-false}
 use borrow.Fn.Kinds.{In}
 use borrow.Fn.PlainCycle.{Measures, is, falls, and}
 use Rattle.expression.specs.Places.{unknown}
-use Rattle.expression.proofs.Views.{opened, placed, readable, leaf-of, own-cell}
+use Rattle.expression.proofs.Views.{opened, placed, readable, leaf-of, last-of, own-cell, below-last, only-fby}
 use Rattle.expression.proofs.Views.{own-types, operation-first, binary-view, conditional-view, present-view, reset-view, fby-view}
 use Rattle.expression.proofs.Values.{after-value, after-walk}
-use Rattle.expression.proofs.Answers.{leaf-yields, operation-unknown, unary-answer, binary-answer}
+use Rattle.expression.proofs.Answers.{leaf-yields, last-yields, operation-unknown, unary-answer, binary-answer}
 use Rattle.expression.proofs.Answers.{conditional-unknown, conditional-unknown-arm, conditional-answer}
 use Rattle.expression.proofs.Answers.{present-unknown, present-unknown-arm, present-answer-first, present-answer-second}
 use Rattle.expression.proofs.Answers.{reset-unknown, reset-answer, fby-unknown, fby-answer-left, fby-answer-cell}
@@ -21,8 +21,8 @@ use Rattle.expression.proofs.value.value_conditional.Reads as condition
 use Rattle.expression.proofs.value.value_conditional.Kinds as conditional-kinds
 use Rattle.expression.proofs.value.value_expression.Reads as expression
 use Rattle.expression.proofs.value.value_expression.Kinds as expression-kinds
-use Rattle.expression.proofs.value.value_fby.Reads as fby
-use Rattle.expression.proofs.value.value_fby.Kinds as fby-kinds
+use Rattle.expression.proofs.value.value_held.Reads as fby
+use Rattle.expression.proofs.value.value_held.Kinds as fby-kinds
 use Rattle.expression.proofs.value.value_operation.Reads as operation
 use Rattle.expression.proofs.value.value_operation.Kinds as operation-kinds
 use Rattle.expression.proofs.value.value_present.Reads as present
@@ -30,6 +30,7 @@ use Rattle.expression.proofs.value.value_present.Kinds as present-kinds
 use Rattle.expression.proofs.value.value_reset.Reads as reset
 use Rattle.expression.proofs.value.value_reset.Kinds as reset-kinds
 use Rattle.leaves.proofs.cells.is_seen.Reads as is-seen-reads
+use Rattle.leaves.proofs.lasts.value_last.Reads as value-last-reads
 use Rattle.leaves.proofs.leaf.value_leaf.Reads as value-leaf-reads
 use Rattle.expression.proofs.value.unknown.Reads as unknown-reads
 use Rattle.expression.proofs.value.value_pre.Reads as value-pre-reads
@@ -38,15 +39,15 @@ use Rattle.operations.proofs.choose.Reads as choose-reads
 use Rattle.operations.proofs.unary.Reads as unary-reads
 use Rattle.sheet.proofs.memory.word_in.Reads as word-in-reads
 use Rattle.sheet_walk.proofs.skip.skip.Reads as skip-reads
-use Rattle.expression.proofs.value.+value_by_kind+value_conditional+value_expression+value_fby+value_operation+value_present+value_reset.{statement}
-use Rattle.expression.proofs.value.+value_by_kind+value_conditional+value_expression+value_fby+value_operation+value_present+value_reset.Lts-value_by_kind as by-kind-lts
-use Rattle.expression.proofs.value.+value_by_kind+value_conditional+value_expression+value_fby+value_operation+value_present+value_reset.Lts-value_conditional as conditional-lts
-use Rattle.expression.proofs.value.+value_by_kind+value_conditional+value_expression+value_fby+value_operation+value_present+value_reset.Lts-value_expression as expression-lts
-use Rattle.expression.proofs.value.+value_by_kind+value_conditional+value_expression+value_fby+value_operation+value_present+value_reset.Lts-value_fby as fby-lts
-use Rattle.expression.proofs.value.+value_by_kind+value_conditional+value_expression+value_fby+value_operation+value_present+value_reset.Lts-value_operation as operation-lts
-use Rattle.expression.proofs.value.+value_by_kind+value_conditional+value_expression+value_fby+value_operation+value_present+value_reset.Lts-value_present as present-lts
-use Rattle.expression.proofs.value.+value_by_kind+value_conditional+value_expression+value_fby+value_operation+value_present+value_reset.Lts-value_reset as reset-lts
-use Rattle.expression.proofs.value.+value_by_kind+value_conditional+value_expression+value_fby+value_operation+value_present+value_reset.Tie.{close}
+use Rattle.expression.proofs.value.+value_by_kind+value_conditional+value_expression+value_held+value_operation+value_present+value_reset.{statement}
+use Rattle.expression.proofs.value.+value_by_kind+value_conditional+value_expression+value_held+value_operation+value_present+value_reset.Lts-value_by_kind as by-kind-lts
+use Rattle.expression.proofs.value.+value_by_kind+value_conditional+value_expression+value_held+value_operation+value_present+value_reset.Lts-value_conditional as conditional-lts
+use Rattle.expression.proofs.value.+value_by_kind+value_conditional+value_expression+value_held+value_operation+value_present+value_reset.Lts-value_expression as expression-lts
+use Rattle.expression.proofs.value.+value_by_kind+value_conditional+value_expression+value_held+value_operation+value_present+value_reset.Lts-value_held as fby-lts
+use Rattle.expression.proofs.value.+value_by_kind+value_conditional+value_expression+value_held+value_operation+value_present+value_reset.Lts-value_operation as operation-lts
+use Rattle.expression.proofs.value.+value_by_kind+value_conditional+value_expression+value_held+value_operation+value_present+value_reset.Lts-value_present as present-lts
+use Rattle.expression.proofs.value.+value_by_kind+value_conditional+value_expression+value_held+value_operation+value_present+value_reset.Lts-value_reset as reset-lts
+use Rattle.expression.proofs.value.+value_by_kind+value_conditional+value_expression+value_held+value_operation+value_present+value_reset.Tie.{close}
 
 abbrev μ-by-kind : Measures 4 by-kind-kinds.ps ℕ
 μ-by-kind κs a = 3 * a .1 .1 .1 .1 .0 + 1
@@ -149,6 +150,8 @@ expression-calls t = (
 
 abbrev fby-calls : ℕ → fby-lts.Claims
 fby-calls t = (
+  value-last-reads.Asked,
+  value-last-reads.Learnt,
   is-seen-reads.Asked,
   is-seen-reads.Learnt,
   skip-reads.Asked,
@@ -225,10 +228,10 @@ module _ (t : ℕ) where
   by-kind-value-pre-requires : by-kind-lts.Need-value-pre-requires (by-kind-calls t) (by-kind-at t) by-kind.Post
   by-kind-value-pre-requires c κs = (c .before .before .before .before .before .before .pre .1, search needs)
 
-  by-kind-value-fby-requires : by-kind-lts.Need-value-fby-requires (by-kind-calls t) (by-kind-at t) by-kind.Post
-  by-kind-value-fby-requires c κs =
+  by-kind-value-held-requires : by-kind-lts.Need-value-held-requires (by-kind-calls t) (by-kind-at t) by-kind.Post
+  by-kind-value-held-requires c κs =
       let b = c .before .before .before .before .before .before in
-      (omega (arith, b .pre .0), (b .pre .1, omega (arith, opened (b .pre .1 .1) .good .kind)))
+      (omega (arith, b .pre .0), (b .pre .1, omega arith))
 
   by-kind-returns : by-kind-lts.Need-returns (by-kind-calls t) (by-kind-at t) by-kind.Post
   by-kind-returns c = c .value-conditional .ensures
@@ -251,7 +254,7 @@ module _ (t : ℕ) where
   by-kind-returns-6 c = c .value-pre .ensures
 
   by-kind-returns-7 : by-kind-lts.Need-returns-7 (by-kind-calls t) (by-kind-at t) by-kind.Post
-  by-kind-returns-7 c = c .value-fby .ensures
+  by-kind-returns-7 c = c .value-held .ensures
 
   conditional-sub-below : conditional-lts.Need-sub-below (conditional-calls t) (conditional-at t) conditional.Post
   conditional-sub-below c = opened (c .before .pre .1 .0 .1) .level-left
@@ -342,80 +345,104 @@ module _ (t : ℕ) where
   expression-returns-2 : expression-lts.Need-returns-2 (expression-calls t) (expression-at t) expression.Post
   expression-returns-2 c = c .value-by-kind .ensures
 
+  fby-shared-slice-read-if1 : fby-lts.Need-shared-slice-read-if1 (fby-calls t) (fby-at t) fby.Post
+  fby-shared-slice-read-if1 c = opened (c .before .before .pre .1 .0 .1) .good .starts
+
+  fby-value-last-requires : fby-lts.Need-value-last-requires (fby-calls t) (fby-at t) fby.Post
+  fby-value-last-requires c κs = last-of (c .before .before .before .pre .1 .0 .1) (c .if1 .taken)
+
+  fby-returns : fby-lts.Need-returns (fby-calls t) (fby-at t) fby.Post
+  fby-returns c =
+      let b = c .before .before .before .before in
+      λ t p. last-yields p (b .args .fresh) (c .before .if1 .taken) (c .value-last .ensures)
+
   fby-sub-below : fby-lts.Need-sub-below (fby-calls t) (fby-at t) fby.Post
-  fby-sub-below c = opened (c .before .pre .1 .0 .1) .level-left
+  fby-sub-below c = opened (c .before .before .before .pre .1 .0 .1) .level-left
 
   fby-add-first : fby-lts.Need-add-first (fby-calls t) (fby-at t) fby.Post
-  fby-add-first c = omega (arith, opened (c .before .pre .1 .0 .1) .good .starts)
+  fby-add-first c = omega (arith, opened (c .before .before .before .pre .1 .0 .1) .good .starts)
 
   fby-add-inner : fby-lts.Need-add-inner (fby-calls t) (fby-at t) fby.Post
-  fby-add-inner c = omega (arith, opened (c .before .pre .1 .0 .1) .good .cells)
+  fby-add-inner c = omega (arith, opened (c .before .before .before .pre .1 .0 .1) .good .cells)
 
   fby-is-seen-requires : fby-lts.Need-is-seen-requires (fby-calls t) (fby-at t) fby.Post
   fby-is-seen-requires c κs =
-      let b = c .before .before in
+      let kind = c .before in
+      let b = kind .before .before .before in
       let p = b .pre .1 .0 .1 in
-      own-cell p (omega (arith, b .pre .1 .1)) .stands .fits
+      own-cell p (omega (arith, b .pre .1 .1)) (below-last (opened p .good .kind) (kind .if1 .left)) .stands .fits
 
   fby-skip-requires : fby-lts.Need-skip-requires (fby-calls t) (fby-at t) fby.Post
   fby-skip-requires c κs =
-      let b = c .before .before .before .before in
+      let kind = c .before .before .before in
+      let b = kind .before .before .before in
       let p = b .pre .1 .0 .1 in
-      readable p (fby-view p (b .pre .1 .1) .first)
+      readable p (fby-view p (only-fby (b .pre .1 .1) (opened p .good .kind) (kind .if1 .left)) .first)
 
   fby-skip-requires-2 : fby-lts.Need-skip-requires-2 (fby-calls t) (fby-at t) fby.Post
   fby-skip-requires-2 c κs =
-      let b = c .before .before .before .before .before in
+      let kind = c .before .before .before .before in
+      let b = kind .before .before .before in
       let p = b .pre .1 .0 .1 in
-      let w = fby-view p (b .pre .1 .1) in
+      let w = fby-view p (only-fby (b .pre .1 .1) (opened p .good .kind) (kind .if1 .left)) in
       readable p (after-walk p (w .first) (c .skip .ensures) (w .second))
 
   fby-word-in-requires : fby-lts.Need-word-in-requires (fby-calls t) (fby-at t) fby.Post
   fby-word-in-requires c κs =
-      let b = c .before .before .before .before .before .before .before in
+      let kind = c .before .before .before .before .before .before in
+      let b = kind .before .before .before in
       let p = b .pre .1 .0 .1 in
-      own-cell p (omega (arith, b .pre .1 .1)) .stands .fits
+      own-cell p (omega (arith, b .pre .1 .1)) (below-last (opened p .good .kind) (kind .if1 .left)) .stands .fits
 
-  fby-returns : fby-lts.Need-returns (fby-calls t) (fby-at t) fby.Post
-  fby-returns c =
+  fby-returns-2 : fby-lts.Need-returns-2 (fby-calls t) (fby-at t) fby.Post
+  fby-returns-2 c =
       let test = c .before .before .before .before in
-      let b = test .before .before .before .before in
-      λ t p. fby-answer-cell p (b .args .fresh) (b .pre .1 .1) (sym (test .before .is-seen .ensures) ∙ test .if1 .taken)
+      let kind = test .before .before .before in
+      let b = kind .before .before .before in
+      λ t p. fby-answer-cell p (b .args .fresh) (only-fby (b .pre .1 .1) (opened p .good .kind) (kind .if1 .left))
+      (sym (test .before .is-seen .ensures) ∙ test .if2 .taken)
       (c .word-in .ensures) (c .before .before .before .skip .ensures) (c .before .before .skip2 .ensures)
 
   fby-value-expression-requires : fby-lts.Need-value-expression-requires (fby-calls t) (fby-at t) fby.Post
   fby-value-expression-requires c κs =
-      let b = c .before .before .before .before in
+      let kind = c .before .before .before in
+      let b = kind .before .before .before in
       let p = b .pre .1 .0 .1 in
-      (omega (arith, b .pre .0, opened p .level-left), (_, placed p (fby-view p (b .pre .1 .1) .first)))
+      let of = only-fby (b .pre .1 .1) (opened p .good .kind) (kind .if1 .left) in
+      (omega (arith, b .pre .0, opened p .level-left), (_, placed p (fby-view p of .first)))
 
   fby-unknown-requires : fby-lts.Need-unknown-requires (fby-calls t) (fby-at t) fby.Post
   fby-unknown-requires c κs = search needs
-
-  fby-returns-2 : fby-lts.Need-returns-2 (fby-calls t) (fby-at t) fby.Post
-  fby-returns-2 c =
-      let left = c .before .before .before in
-      let test = left .before in
-      let b = test .before .before .before .before in
-      λ t p. unknown (c .unknown .ensures)
-      (fby-unknown p (b .args .fresh) (b .pre .1 .1) (sym (test .before .is-seen .ensures) ∙ test .if1 .left)
-      (left .value-expression .ensures) (not-true _ (c .before .if2 .taken)))
-
-  fby-skip-requires-3 : fby-lts.Need-skip-requires-3 (fby-calls t) (fby-at t) fby.Post
-  fby-skip-requires-3 c κs =
-      let left = c .before .before in
-      let b = left .before .before .before .before .before in
-      let p = b .pre .1 .0 .1 in
-      let w = fby-view p (b .pre .1 .1) in
-      readable p (after-value p (w .first) (left .value-expression .ensures) (not-false _ (c .if2 .left)) (w .second))
 
   fby-returns-3 : fby-lts.Need-returns-3 (fby-calls t) (fby-at t) fby.Post
   fby-returns-3 c =
       let left = c .before .before .before in
       let test = left .before in
-      let b = test .before .before .before .before in
-      λ t p. fby-answer-left p (b .args .fresh) (b .pre .1 .1) (sym (test .before .is-seen .ensures) ∙ test .if1 .left)
-      (left .value-expression .ensures) (not-false _ (c .before .if2 .left)) (c .skip3 .ensures)
+      let kind = test .before .before .before in
+      let b = kind .before .before .before in
+      λ t p. unknown (c .unknown .ensures)
+      (fby-unknown p (b .args .fresh) (only-fby (b .pre .1 .1) (opened p .good .kind) (kind .if1 .left))
+      (sym (test .before .is-seen .ensures) ∙ test .if2 .left)
+      (left .value-expression .ensures) (not-true _ (c .before .if3 .taken)))
+
+  fby-skip-requires-3 : fby-lts.Need-skip-requires-3 (fby-calls t) (fby-at t) fby.Post
+  fby-skip-requires-3 c κs =
+      let left = c .before .before in
+      let kind = left .before .before .before .before in
+      let b = kind .before .before .before in
+      let p = b .pre .1 .0 .1 in
+      let w = fby-view p (only-fby (b .pre .1 .1) (opened p .good .kind) (kind .if1 .left)) in
+      readable p (after-value p (w .first) (left .value-expression .ensures) (not-false _ (c .if3 .left)) (w .second))
+
+  fby-returns-4 : fby-lts.Need-returns-4 (fby-calls t) (fby-at t) fby.Post
+  fby-returns-4 c =
+      let left = c .before .before .before in
+      let test = left .before in
+      let kind = test .before .before .before in
+      let b = kind .before .before .before in
+      λ t p. fby-answer-left p (b .args .fresh) (only-fby (b .pre .1 .1) (opened p .good .kind) (kind .if1 .left))
+      (sym (test .before .is-seen .ensures) ∙ test .if2 .left)
+      (left .value-expression .ensures) (not-false _ (c .before .if3 .left)) (c .skip3 .ensures)
 
   operation-shared-slice-read-kind : operation-lts.Need-shared-slice-read-kind (operation-calls t) (operation-at t) operation.Post
   operation-shared-slice-read-kind c = opened (c .before .before .pre .1 .0 .1) .good .starts
@@ -609,14 +636,15 @@ module _ (t : ℕ) where
       λ t p. reset-answer p (b .args .fresh) (b .pre .1 .1) (condition .value-expression .ensures) (not-false _ (test .if1 .left))
       (c .value-by-kind .ensures)
 
-pub +value-by-kind+value-conditional+value-expression+value-fby+value-operation+value-present+value-reset-spec : {M : Type 1} → statement M
-+value-by-kind+value-conditional+value-expression+value-fby+value-operation+value-present+value-reset-spec =
+pub +value-by-kind+value-conditional+value-expression+value-held+value-operation+value-present+value-reset-spec : {M : Type 1} → statement M
++value-by-kind+value-conditional+value-expression+value-held+value-operation+value-present+value-reset-spec =
     close μ-by-kind μ-conditional μ-expression μ-fby μ-operation μ-present μ-reset
     (λ t. by-kind-lts.spec (by-kind-calls t) (by-kind-at t) by-kind.Post
     (by-kind-shared-slice-read-match t) (by-kind-value-conditional-requires t) (by-kind-value-present-requires t)
     (by-kind-value-reset-requires t) (by-kind-value-leaf-requires t) (by-kind-value-operation-requires t)
-    (by-kind-value-pre-requires t) (by-kind-value-fby-requires t) (by-kind-returns t) (by-kind-returns-2 t)
-    (by-kind-returns-3 t) (by-kind-returns-4 t) (by-kind-returns-5 t) (by-kind-returns-6 t) (by-kind-returns-7 t))
+    (by-kind-value-pre-requires t) (by-kind-value-held-requires t)
+    (by-kind-returns t) (by-kind-returns-2 t) (by-kind-returns-3 t) (by-kind-returns-4 t) (by-kind-returns-5 t)
+    (by-kind-returns-6 t) (by-kind-returns-7 t))
     (λ t. conditional-lts.spec (conditional-calls t) (conditional-at t) conditional.Post
     (conditional-sub-below t) (conditional-add-first t) (conditional-value-expression-requires t)
     (conditional-unknown-requires t) (conditional-returns t) (conditional-value-expression-requires-2 t)
@@ -626,9 +654,10 @@ pub +value-by-kind+value-conditional+value-expression+value-fby+value-operation+
     (expression-shared-slice-read-if1 t) (expression-value-leaf-requires t) (expression-returns t)
     (expression-value-by-kind-requires t) (expression-returns-2 t))
     (λ t. fby-lts.spec (fby-calls t) (fby-at t) fby.Post
-    (fby-sub-below t) (fby-add-first t) (fby-add-inner t) (fby-is-seen-requires t) (fby-skip-requires t)
-    (fby-skip-requires-2 t) (fby-word-in-requires t) (fby-returns t) (fby-value-expression-requires t)
-    (fby-unknown-requires t) (fby-returns-2 t) (fby-skip-requires-3 t) (fby-returns-3 t))
+    (fby-shared-slice-read-if1 t) (fby-value-last-requires t) (fby-returns t) (fby-sub-below t) (fby-add-first t)
+    (fby-add-inner t) (fby-is-seen-requires t) (fby-skip-requires t) (fby-skip-requires-2 t) (fby-word-in-requires t)
+    (fby-returns-2 t) (fby-value-expression-requires t) (fby-unknown-requires t) (fby-returns-3 t)
+    (fby-skip-requires-3 t) (fby-returns-4 t))
     (λ t. operation-lts.spec (operation-calls t) (operation-at t) operation.Post
     (operation-shared-slice-read-kind t) (operation-sub-below t) (operation-add-first t)
     (operation-value-expression-requires t) (operation-unknown-requires t) (operation-returns t)

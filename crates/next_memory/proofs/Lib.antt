@@ -1,3 +1,2 @@
 -- How the storing of a memory goes on.
 pub mod Storing
-pub mod Keeping

@@ -1,34 +1,39 @@
 -- How the storing of a memory goes on: the wires below w have stored their cells, and the cells of those that are left still stand.
 use Prim.Native.Nat.{ℕ, zero, suc, _+_, _-_, _*_, _≤_, _<_, zero-le}
 use mathlib.Core.Path.{_≡_, refl, sym, ap, _∙_}
-use mathlib.Core.Bool.{false}
+use mathlib.Core.Bool.{Bool, true, false, cond}
 use mathlib.Core.List.{List, [], _∷_, _++_}
 use native.Mathlib.Numerals.{add-one}
 use native.Mathlib.Omega.{arith}
 use lib.ListN.{length, getD, take, drop, length-append}
 use lib.Seq.{sets, length-sets, drop-cons, drop-length, take-suc}
 use Rattle.sheet.specs.Expressions.{Expression, constant, cellForms, cellCount}
-use Rattle.sheet.specs.Data.{plainByte, isKept}
+use Rattle.sheet.specs.Data.{plainByte, isKept, wireType, datumOf}
 use Rattle.sheet.specs.Sheets.{formsOf, expressionAt, cellsBefore, ownCells}
 use Rattle.sheet.specs.Memory.{memoryBytes}
 use Rattle.sheet.specs.Laws.Readings.{forms-length, expression-extent}
 use Rattle.sheet.specs.Laws.Wires.{tree-count}
 use Rattle.sheet.specs.Laws.Memory.{pairwise-length, memory-length}
 use Rattle.sheet.specs.declared.Cell.{Cell}
+use Rattle.sheet.specs.declared.Cell.the-variants.{Started}
 use Rattle.sheet.specs.declared.Datum.the-variants.{Boolean}
 use Rattle.numbers.specs.Laws.{sets-all, sets-append}
 use Rattle.sheet_expressions.proofs.Drawing.{forms-snoc}
-use Rattle.kernel.specs.Values.{IsKnown}
+use Rattle.kernel.specs.Values.{datumIn, IsKnown}
 use Rattle.kernel.specs.Order.{valueAt}
-use Rattle.kernel.specs.Systems.{Full}
-use Rattle.kernel.specs.Instant.{Environment, stored}
+use Rattle.kernel.specs.Systems.{Full, Solution}
+use Rattle.kernel.specs.Instant.{Environment, value, stored}
 use Rattle.kernel.specs.Instants.{storedCells, under, nextMemory}
-use Rattle.kernel.specs.Laws.Kept.{tree-stored}
+use Rattle.kernel.specs.Laws.Instants.{round-at}
+use Rattle.kernel.specs.Laws.Kept.{ownStored, tree-stored}
+use Rattle.kernel.specs.declared.Value.{Value}
+use Rattle.kernel.specs.declared.Value.the-variants.{Known}
 use Rattle.expression.specs.Places.{CellsStand}
 use Rattle.expression.proofs.Views.{cells-split}
-use Rattle.rounds.proofs.Wires.{wires-counted, cells-within, running-stands}
+use Rattle.rounds.proofs.Wires.{wires-counted, cells-within, running-stands, wire-valued}
 use Rattle.rounds.proofs.Rounding.{known-held}
-use Rattle.next_memory.specs.Wires.{ReadyWire, wireBytes}
+use Rattle.storing.specs.Advances.{Ready, Advances}
+use Rattle.storing.specs.declared.advance.Advanced.{Advanced}
 use Rattle.storing.proofs.Standing.{cells-past, memory-append, stored-length}
 use Rattle.rounds.specs.Settled.{Settled, storedOf}
 
@@ -53,6 +58,14 @@ first-within es zero = zero-le
 first-within [] (suc w) = zero-le
 first-within (e ∷ es) (suc w) =
     omega (arith, first-within es w, length-append (cellForms e) (formsOf (take w es)), length-append (cellForms e) (formsOf es))
+
+-- the bytes of a wire's own cell, or none
+own-size : (b : ℕ) (v : Value) → length (memoryBytes (ownStored b v)) ≡ 5 * ownCells b
+own-size b v = memory-length (ownStored b v) ∙ ap (λ (n : ℕ). 5 * n) (go (isKept b))
+  where
+    go : (t : Bool) → length (cond t (Started (datumIn v) ∷ []) []) ≡ cond t 1 0
+    go true = refl
+    go false = refl
 
 full-at : {s start types places firsts words : List ℕ} (f : Settled s start types places firsts words) (w : ℕ) → w < length types
     → IsKnown (valueAt (f .under .values) w)
@@ -117,39 +130,7 @@ module _ {s start types places firsts words : List ℕ} (f : Settled s start typ
           within = first-within trees (suc w);
         }
 
-    -- wire w can store its cells
-    pub ready : {w at cell : ℕ} {memory : List ℕ} → Stored w memory → w < length types → at ≡ getD places w 0 → cell ≡ getD firsts w 0
-        → ReadyWire s memory words (getD types w 0) at cell
-    ready {w} h l p q =
-        let t = turn h l in
-        let byte = getD types w 0 in
-        let here = f .under .running .starts w l in
-        let number = q ∙ here .first in
-        let extent = expression-extent (f .under .running .inputs) types s 16 (plainByte byte) (getD places w 0) (getD firsts w 0) (here .reads) in
-        let size = ap cellCount (here .whole) ∙ tree-count byte (here .tree) in
-        let count : here .count ≡ first (suc w) = omega (arith, extent .counted, here .first, t .counted, size) in
-        record {
-          expression = record {
-            bits = f .bits;
-            full = λ x m. known-held (full-at f x m) (f .under .holds .each x m);
-            place = record {
-              inputs = f .under .running .inputs;
-              wires = types;
-              now = environment;
-              tree = here .tree;
-              next = here .next;
-              count = here .count;
-              reads = rw (p, q) (here .reads);
-              stands = running-stands (f .under .running) (f .under .holds) (f .under .typed);
-              cells = rw number (cells-within byte (here .tree) (rw (here .whole) at (t .cells)));
-            };
-            within = omega (arith, t .within, owned .0, count);
-            room = omega (arith, t .within, owned .1, h .room, count);
-          };
-          own = λ k. let one : ownCells byte ≡ 1 = rw k in omega (arith, number, one);
-        }
-
-    -- the cells of wire w are stored, whoever did it
+    -- the cells of wire w are stored
     further : {w : ℕ} {memory after : List ℕ} → Stored w memory → w < length types
         → after ≡ sets memory (5 * first w) (memoryBytes (stored environment false (expressionAt trees w) (first w))) → Stored (w + 1) after
     unfolding storedCells
@@ -171,33 +152,104 @@ module _ {s start types places firsts words : List ℕ} (f : Settled s start typ
               (joined ∙ rw (← (memory-append (stored environment false tree (first w)) others)) (rw (t .trees-left, ← (t .counted)) at (h .rest)));
         }
 
-    pub one-stored : {w at cell : ℕ} {memory after : List ℕ} (h : Stored w memory) (l : w < length types) (p : at ≡ getD places w 0)
-        (q : cell ≡ getD firsts w 0) → after ≡ sets memory (5 * (cell - ownCells (getD types w 0))) (wireBytes (ready h l p q))
-        → Stored (w + 1) after
-    unfolding ready
-    one-stored {w} {at} {cell} {memory} h l p q holds =
-        let byte = getD types w 0 in
-        let here = f .under .running .starts w l in
-        let number : cell ≡ first w + ownCells byte = q ∙ here .first in
-        let own : cell - ownCells byte ≡ first w = omega arith in
-        let cells = ap (λ e. stored environment false e (first w)) (here .whole) ∙ tree-stored environment false byte (here .tree) (first w) in
-        further h l (holds ∙ rw (own, number, cells))
+    -- Wire w in its turn: it stores its own cell, if it is kept, and behind it those of its expression, of which the first has number `cell`.
+    module _ {w cell : ℕ} {memory : List ℕ} (h : Stored w memory) (l : w < length types) (q : cell ≡ getD firsts w 0) where
+      abbrev byte : ℕ
+      byte = getD types w 0
 
-    -- a wire without cells stores nothing
-    pub none-stored : {w : ℕ} {memory : List ℕ} → Stored w memory
-        → (isKept (getD types w 0) ≡ false) × (w + 1 < length types) × (getD firsts w 0 ≡ getD firsts (w + 1) 0) → Stored (w + 1) memory
-    unfolding memoryBytes
-    none-stored {w} {memory} h (plain, l, same) =
-        let inside : w < length types = omega arith in
-        let t = turn h inside in
-        let none : ownCells (getD types w 0) ≡ 0 = rw plain in
-        let next : getD firsts (suc w) 0 ≡ first (suc w) + ownCells (getD types (suc w) 0) =
-        rw add-one at (f .under .running .starts (w + 1) l .first) in
-        let alike : getD firsts w 0 ≡ getD firsts (suc w) 0 = rw add-one at same in
-        let cells = stored environment false (expressionAt trees w) (first w) in
-        let size = stored-length environment false (expressionAt trees w) (first w) (omega (arith, t .within, t .counted, owned .0)) in
-        let nothing : cells ≡ [] = no-cells cells (omega (arith, size, t .counted, none, next, f .under .running .starts w inside .first)) in
-        further h inside (rw nothing)
+      abbrev tree : Expression
+      tree = f .under .running .starts w l .tree
+
+      abbrev held : Value
+      held = Known (datumOf (wireType byte) (getD words w 0))
+
+      abbrev ownBytes : List ℕ
+      ownBytes = memoryBytes (ownStored byte held)
+
+      -- what is worked out for it is what its word holds, as the finished values are a solution
+      own-value : value environment false tree cell ≡ held
+      unfolding Solution
+      own-value =
+          let r = f .under .running in
+          let holds = f .under .holds in
+          wire-valued r (f .under .values) w l q
+          ∙ sym (round-at (r .given .sheet) (r .given .inputs) (r .given .memory) (f .under .values) w)
+          ∙ ap (λ values. valueAt values w) (f .solves)
+          ∙ running-stands r holds (f .under .typed) .onWires w l
+          ∙ rw (known-held (full-at f w l) (holds .each w l))
+
+      number : cell ≡ first w + ownCells byte
+      number = q ∙ f .under .running .starts w l .first
+
+      sized : first (suc w) ≡ cell + cellCount tree
+      sized = omega (arith, turn h l .counted, number, ap cellCount (f .under .running .starts w l .whole) ∙ tree-count byte tree)
+
+      -- the cells before those of the expression are in the memory, its own among them
+      pub own-fits : (ownCells byte ≤ cell) × (5 * cell ≤ length memory)
+      own-fits = (omega (arith, number), omega (arith, sized, turn h l .within, owned .1, h .room))
+
+      module _ {middle : List ℕ} (own : middle ≡ sets memory (5 * (cell - ownCells byte)) ownBytes) where
+        -- its own cell is stored, and ends where those of its expression begin
+        own-stored : (middle ≡ sets memory (5 * first w) ownBytes) × (5 * first w + length ownBytes ≡ 5 * cell)
+        own-stored =
+            let place : cell - ownCells byte ≡ first w = omega (arith, number) in
+            (own ∙ rw place, omega (arith, own-size byte held, number))
+
+        -- its expression can advance
+        pub ready : {at : ℕ} → at ≡ getD places w 0 → Ready s middle words 16 (plainByte byte) at cell
+        ready p =
+            let t = turn h l in
+            let here = f .under .running .starts w l in
+            let cells = cells-past ownBytes (5 * first w) (omega (arith, own-stored .1)) (cells-within byte tree (rw (here .whole) at (t .cells))) in
+            let extent = expression-extent (f .under .running .inputs) types s 16 (plainByte byte) (getD places w 0) (getD firsts w 0) (here .reads) in
+            let count : here .count ≡ first (suc w) = omega (arith, extent .counted, sized, q) in
+            record {
+              bits = f .bits;
+              full = λ x m. known-held (full-at f x m) (f .under .holds .each x m);
+              place = record {
+                inputs = f .under .running .inputs;
+                wires = types;
+                now = environment;
+                tree = tree;
+                next = here .next;
+                count = here .count;
+                reads = rw (p, q) (here .reads);
+                stands = running-stands (f .under .running) (f .under .holds) (f .under .typed);
+                cells = rw (own-stored .0, number) cells;
+              };
+              within = omega (arith, t .within, owned .0, count);
+              room =
+                  let size = ap length (own-stored .0) ∙ length-sets memory (5 * first w) ownBytes in
+                  omega (arith, t .within, owned .1, h .room, count, size);
+            }
+
+        both-stored : {after : List ℕ} → after ≡ sets middle (5 * cell) (memoryBytes (stored environment false tree cell))
+            → Stored (w + 1) after
+        both-stored holds =
+            let cells = stored environment false tree cell in
+            let parts : stored environment false (expressionAt trees w) (first w) ≡ ownStored byte held ++ cells =
+            ap (λ e. stored environment false e (first w)) (f .under .running .starts w l .whole)
+            ∙ tree-stored environment false byte tree (first w) ∙ rw (← number, own-value) in
+            further h l
+            (holds ∙ rw (own-stored .0, ← (own-stored .1), parts, memory-append)
+            (sym (sets-append ownBytes (memoryBytes cells) memory (5 * first w))))
+
+        -- its expression advanced
+        pub one-stored : {at : ℕ} (p : at ≡ getD places w 0) {r : Advanced} {after : List ℕ} → Advances (ready p) false r after
+            → Stored (w + 1) after
+        unfolding ready
+        one-stored p a = both-stored (a .holds)
+
+        -- its expression has no cells
+        pub none-stored : (w + 1 < length types) × (getD firsts (w + 1) 0 ≡ cell + ownCells (getD types (w + 1) 0))
+            → Stored (w + 1) middle
+        unfolding memoryBytes
+        none-stored (more, alike) =
+            let cells = stored environment false tree cell in
+            let size = stored-length environment false tree cell (omega (arith, turn h l .within, sized, owned .0)) in
+            let next = f .under .running .starts (w + 1) more .first in
+            let nothing : cells ≡ [] = no-cells cells (omega (arith, size, rw add-one at (sym alike ∙ next), sized)) in
+            both-stored (rw nothing)
 
     pub all-stored : {w : ℕ} {memory : List ℕ} → Stored w memory → w ≡ length types → memory ≡ storedOf f
     unfolding storedCells memoryBytes

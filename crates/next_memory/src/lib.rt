@@ -1,4 +1,4 @@
-// The next memory: all wires advance, one after the other, in one memory.
+// The next memory: one wire after the other stores its word, where it is kept, and its expression advances, where that may own cells.
 // Rests on `advance` of `storing` for one expression, on `memory` for the cell of a kept wire, and on the map for where a wire stands.
 use sheet::Cell;
 use sheet::data;
@@ -10,12 +10,15 @@ ghost use mathlib.Core.Bool.{false};
 ghost use Prim.Native.Nat.{_+_, _-_, _*_, _<_, _≤_};
 ghost use lib.ListN.{length, getD};
 ghost use lib.Seq.{sets};
-ghost use Rattle.sheet.specs.Data.{isKept};
+ghost use Rattle.sheet.specs.Data.{wireType, datumOf};
 ghost use Rattle.sheet.specs.Sheets.{ownCells};
+ghost use Rattle.sheet.specs.Memory.{memoryBytes};
+ghost use Rattle.kernel.specs.Laws.Kept.{ownStored};
+ghost use Rattle.kernel.specs.declared.Value.the-variants.{Known};
 ghost use Rattle.rounds.specs.Settled.{Settled, storedOf};
-ghost use Rattle.next_memory.specs.Wires.{ReadyWire, wireBytes};
 
-// Stores the cells of all wires under the finished values, which the words hold. A wire without cells is passed over.
+// Stores the cells of all wires under the finished values, which the words hold. These are just what the expressions give, so that a kept wire's
+// word is stored as it is, and nothing is worked out again where an expression owns no cell.
 pub fn store(
     sheet: &[u8],
     memory: &mut [u8],
@@ -30,42 +33,52 @@ pub fn store(
 {
     let mut w = 0;
     while w < types.len() {
-        if may_own(types, firsts, w) {
+        let byte = types[w];
+        let cell = numbers::length_of(firsts[w]);
+        store_own(memory, byte, words[w], cell);
+        if may_own(types, firsts, w, cell) {
             let at = map::place(places[w]);
-            let cell = numbers::length_of(firsts[w]);
-            store_wire(sheet, memory, words, types[w], at, cell);
+            advance::advance_expression(
+                sheet,
+                memory,
+                words,
+                16,
+                data::plain(byte),
+                at,
+                cell,
+                false,
+            );
         }
         w += 1;
     }
 }
 
-// Stores the cells of a wire with this type byte, whose expression stands at `at` and has as its first cell the one with number `cell`. A
-// kept wire's own cell is the one before and gets the wire's value.
-fn store_wire(sheet: &[u8], memory: &mut [u8], words: &[u32; 144], byte: u8, at: usize, cell: usize)
-    requires { ⌜ ReadyWire (now sheet) (now memory) (now words) byte at cell ⌝ }
-    ensures { λ _. ⌜ ((p : ReadyWire (now (sheet .entry)) (now (memory .entry)) (now (words .entry)) byte at cell)
-        → now (memory .exit) ≡ sets (now (memory .entry)) (5 * (cell - ownCells byte)) (wireBytes p)) ⌝ }
+// Stores the word of a wire with this type byte in the wire's own cell, if it is kept: the one before `cell`, the first of its expression.
+fn store_own(memory: &mut [u8], byte: u8, word: u32, cell: usize)
+    requires { ⌜ (ownCells byte ≤ cell) × (5 * cell ≤ length (now memory)) ⌝ }
+    ensures { λ _. ⌜ now (memory .exit)
+        ≡ sets (now (memory .entry)) (5 * (cell - ownCells byte)) (memoryBytes (ownStored byte (Known (datumOf (wireType byte) word)))) ⌝ }
 {
-    let asked = data::plain(byte);
-    let done = advance::advance_expression(sheet, memory, words, 16, asked, at, cell, false);
     if data::is_kept(byte) {
-        let value = data::datum_of(asked, done.word);
+        let value = data::datum_of(data::plain(byte), word);
         memory::put_cell(memory, cell - 1, Cell::Started(value));
     }
 }
 
-// Whether wire w may own cells: it is kept, or the last wire, or the next one's expression has a first cell with another number.
-fn may_own(types: &[u8], firsts: &[u8; 64], w: usize) -> bool
-    requires { ⌜ (w < length (now types)) × (length (now types) ≤ 64) ⌝ }
-    ensures { λ r. ⌜ (r ≡ false → (isKept (getD (now (types .entry)) w 0) ≡ false) × (w + 1 < length (now (types .entry)))
-        × (getD (now (firsts .entry)) w 0 ≡ getD (now (firsts .entry)) (w + 1) 0)) ⌝ }
+// Whether the expression of wire w, whose first cell would be `cell`, may own cells: w is the last wire, or the next wire's expression has
+// another first cell than if that of w owned none.
+fn may_own(types: &[u8], firsts: &[u8; 64], w: usize, cell: usize) -> bool
+    requires { ⌜ (w < length (now types)) × (length (now types) ≤ 64) × (cell < 256) ⌝ }
+    ensures { λ r. ⌜ (r ≡ false → (w + 1 < length (now (types .entry)))
+        × (getD (now (firsts .entry)) (w + 1) 0 ≡ cell + ownCells (getD (now (types .entry)) (w + 1) 0))) ⌝ }
 {
     let next = w + 1;
     if types.len() <= next {
         return true;
     }
-    if data::is_kept(types[w]) {
-        return true;
+    let mut following = cell;
+    if data::is_kept(types[next]) {
+        following += 1;
     }
-    firsts[w] != firsts[next]
+    numbers::length_of(firsts[next]) != following
 }

@@ -10,6 +10,7 @@ use Rattle.kernel.specs.Systems.{Full}
 use Rattle.kernel.specs.Instants.{outputRow}
 use Rattle.kernel.specs.Calls.{Given}
 use Rattle.kernel.specs.Laws.Memory.{finished-typed}
+use Rattle.kernel.specs.Laws.Solutions.{finished-solution}
 use Rattle.kernel.specs.Laws.Demands.{givenFinished}
 use Rattle.leaves.specs.Words.{fixedWords}
 use Rattle.rounds.specs.Running.{Holds, RunningUnder}
@@ -40,7 +41,14 @@ module _ {s memory input output places firsts reads start types outputs : List �
       }
 
   abbrev pub settled : {bits : ℕ} {words : List ℕ} → HoldsFinished bits words → FullFinished → Settled s memory types places firsts words
-  settled {bits} h full = record { row = fixedWords start; bits = bits; under = under-finished h; full = full }
+  settled {bits} h full =
+      record {
+        row = fixedWords start;
+        bits = bits;
+        under = under-finished h;
+        full = full;
+        solves = finished-solution (given .sheet) (given .inputs) (given .memory);
+      }
 
   -- each output is one of 64 wires, and the row has room for each
   pub row-fits : Below 64 outputs × (length output ≡ 4 * length outputs)

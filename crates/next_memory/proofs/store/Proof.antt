@@ -6,48 +6,68 @@ use native.Mathlib.Omega.{arith}
 use lib.ListN.{length}
 use borrow.Author.Needs.{needs}
 use Rattle.rounds.specs.Settled.{Settled}
-use Rattle.next_memory.proofs.Storing.{Stored, unstored, ready, one-stored, none-stored, all-stored}
+use Rattle.next_memory.proofs.Storing.{Stored, unstored, own-fits, ready, one-stored, none-stored, all-stored}
 use Rattle.next_memory.proofs.store.Statement.{statement}
 use Rattle.next_memory.proofs.store.Tie as tie
 
 abbrev Inv-loop : tie.InvT-loop
 Inv-loop sheet memory₀ types places firsts words w₀ memory w =
-    (w ≤ length types) × (length memory ≡ length memory₀)
+    (w ≤ length types) × (length types ≤ 64) × (length memory ≡ length memory₀)
     × ((f : Settled sheet memory₀ types places firsts words) → Stored f w memory)
 
 abbrev μ-loop : tie.MeasureT-loop
 μ-loop sheet memory₀ types places firsts words w₀ memory w = length types - w
 
 loop-holds : tie.Need-loop-holds Inv-loop μ-loop
-loop-holds c = (omega arith, refl, λ f. unstored f)
+loop-holds c = (omega arith, c .before .before .before .pre .under .running .few, refl, λ f. unstored f)
 
-may-own-requires : tie.Need-may-own-requires Inv-loop μ-loop
-may-own-requires c κs = (omega arith, c .before .before .before .before .before .pre .under .running .few)
-
-mul-place : tie.Need-mul-place Inv-loop μ-loop
-mul-place c = search needs
-
-element-copy-out-place : tie.Need-element-copy-out-place Inv-loop μ-loop
-element-copy-out-place c = omega (arith, c .before .before .before .before .before .before .before .pre .under .running .few)
-
-place-requires : tie.Need-place-requires Inv-loop μ-loop
-place-requires c κs = search needs
+shared-slice-read-byte : tie.Need-shared-slice-read-byte Inv-loop μ-loop
+shared-slice-read-byte c = omega arith
 
 element-copy-out-length-of : tie.Need-element-copy-out-length-of Inv-loop μ-loop
-element-copy-out-length-of c = omega (arith, c .before .before .before .before .before .before .before .before .before .pre .under .running .few)
+element-copy-out-length-of c = omega arith
 
 length-of-requires : tie.Need-length-of-requires Inv-loop μ-loop
 length-of-requires c κs = search needs
 
-shared-slice-read-store-wire : tie.Need-shared-slice-read-store-wire Inv-loop μ-loop
-shared-slice-read-store-wire c = omega arith
+mul-store-own : tie.Need-mul-store-own Inv-loop μ-loop
+mul-store-own c = omega arith
 
-store-wire-requires : tie.Need-store-wire-requires Inv-loop μ-loop
-store-wire-requires c κs =
-    let test = c .before .before .before .before .before .before .before .before in
-    let f = c .before .before .before .before .before .before .before .before .before .before .before .before .before .pre in
-    ready f (test .before .loop .inv .2 f) (test .loop-test .taken) (c .before .before .before .before .place .ensures)
-    (c .before .before .length-of .ensures .0)
+element-copy-out-store-own : tie.Need-element-copy-out-store-own Inv-loop μ-loop
+element-copy-out-store-own c = omega arith
+
+store-own-requires : tie.Need-store-own-requires Inv-loop μ-loop
+store-own-requires c κs =
+    let cell = c .before .before in
+    let test = cell .before .before .before in
+    let f = test .before .before .before .before .before .pre in
+    own-fits f (test .before .loop .inv .3 f) (test .loop-test .taken) (cell .length-of .ensures .0)
+
+may-own-requires : tie.Need-may-own-requires Inv-loop μ-loop
+may-own-requires c κs = omega arith
+
+mul-place : tie.Need-mul-place Inv-loop μ-loop
+mul-place c = omega arith
+
+element-copy-out-place : tie.Need-element-copy-out-place Inv-loop μ-loop
+element-copy-out-place c = omega arith
+
+place-requires : tie.Need-place-requires Inv-loop μ-loop
+place-requires c κs = search needs
+
+plain-requires : tie.Need-plain-requires Inv-loop μ-loop
+plain-requires c κs = search needs
+
+advance-expression-requires : tie.Need-advance-expression-requires Inv-loop μ-loop
+advance-expression-requires c κs =
+    let place = c .before .before in
+    let own = place .before .before .before .before .before .before in
+    let cell = own .before .before .before in
+    let test = cell .before .before .before in
+    let f = test .before .before .before .before .before .pre in
+    rw (c .plain .ensures)
+    (ready f (test .before .loop .inv .3 f) (test .loop-test .taken) (cell .length-of .ensures .0) (own .store-own .ensures)
+    (place .place .ensures))
 
 add-w : tie.Need-add-w Inv-loop μ-loop
 add-w c = omega arith
@@ -57,23 +77,29 @@ loop-less c = omega arith
 
 loop-again : tie.Need-loop-again Inv-loop μ-loop
 loop-again c =
-    let l = c .before .before .before .loop in
-    let more = c .before .before .loop-test .taken in (
+    let own = c .before .before .before .before .store-own in
+    let cell = c .before .before .before .before .before .before .before in
+    let test = cell .before .before .before in
+    let before = test .before .loop .inv in
+    let more = test .loop-test .taken in
+    let first = cell .length-of .ensures .0 in (
       omega arith,
-      ⊎-elim (λ w. ap length (w .10) ∙ w .7 .kept .1 .0) (λ w. ap length (w .1)) (c .if1 .came) ∙ l .inv .1,
+      before .1,
+      ⊎-elim (λ w. ap length (w .8) ∙ w .5 .kept .1 .0) (λ w. ap length (w .1)) (c .if1 .came) ∙ own .kept .0 ∙ before .2,
       λ f.
+          let h = before .3 f in
           ⊎-elim
-          (λ w. rw (w .10) (one-stored f (l .inv .2 f) more (w .2 .ensures) (w .4 .ensures .0)
-          (w .7 .ensures (ready f (l .inv .2 f) more (w .2 .ensures) (w .4 .ensures .0)))))
-          (λ w. rw (w .1) (none-stored f (l .inv .2 f) (c .before .may-own .ensures (w .0 .left))))
+          (λ w. let can = ready f h more first (own .ensures) (w .2 .ensures) in
+          rw (w .8) (one-stored f h more first (own .ensures) (w .2 .ensures) ((rw (w .4 .ensures) at (w .5 .ensures)) can)))
+          (λ w. rw (w .1) (none-stored f h more first (own .ensures) (c .before .may-own .ensures (w .0 .left))))
           (c .if1 .came),
     )
 
 same-length : tie.Need-same-length Inv-loop μ-loop
-same-length c = c .before .loop .inv .1
+same-length c = c .before .loop .inv .2
 
 returns : tie.Need-returns Inv-loop μ-loop
-returns c = λ f. all-stored f (c .before .loop .inv .2 f) (omega arith)
+returns c = λ f. all-stored f (c .before .loop .inv .3 f) (omega arith)
 
 pub store-spec : {M : Type 1} → statement M
 store-spec =
@@ -82,14 +108,18 @@ store-spec =
     Inv-loop
     μ-loop
     loop-holds
+    shared-slice-read-byte
+    element-copy-out-length-of
+    length-of-requires
+    mul-store-own
+    element-copy-out-store-own
+    store-own-requires
     may-own-requires
     mul-place
     element-copy-out-place
     place-requires
-    element-copy-out-length-of
-    length-of-requires
-    shared-slice-read-store-wire
-    store-wire-requires
+    plain-requires
+    advance-expression-requires
     add-w
     loop-less
     loop-again

@@ -12,6 +12,9 @@
  * A wire whose type byte is 2 or 3 is kept: it owns a cell, which starts false or 0 and in which each accepted instant stores the wire's value. No
  * reset touches it, and kind 18 gives it.
  *
+ * Kind 19 is a machine with two states: it owns a cell, a Boolean with mark 1, which is false in state 0. The condition of the current state is
+ * asked; if it holds, the other state is entered in the same instant and its body is fresh. The body that runs gives the value.
+ *
  * A number is 32 bits in two's complement. Add, subtract and negate stop at its ends, 2147483647 and -2147483648: a full register stays
  * full.
  */
@@ -43,7 +46,7 @@ enum {
     NUTHATCHBED_COUNT_RANGE = 3,      /* a count out of range */
     NUTHATCHBED_TYPE_BYTE = 4,        /* a type byte of an input above 1, of a wire above 3 */
     NUTHATCHBED_OUTPUT_WIRE = 5,      /* an output that is no wire, or not above the one before */
-    NUTHATCHBED_KIND = 6,             /* a kind above 18 */
+    NUTHATCHBED_KIND = 6,             /* a kind above 19 */
     NUTHATCHBED_BODY = 7,             /* a wire or input that is not there, a wire that is not kept at kind 18, or a Boolean above 1 */
     NUTHATCHBED_LEVEL = 8,            /* a level above 16 */
     NUTHATCHBED_TYPE_ASKED = 9,       /* a type that is not the one asked */

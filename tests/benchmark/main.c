@@ -11,8 +11,8 @@
 
 #include <stdio.h>
 
-static group_maker *const makers[] = {make_quarter, make_chain,          make_wide,          make_deep,
-                                      make_kept,    make_irregular_2000, make_irregular_4000};
+static group_maker *const makers[] = {make_quarter, make_chain,    make_wide,           make_deep,
+                                      make_kept,    make_machines, make_irregular_2000, make_irregular_4000};
 
 enum { groups_timed = sizeof makers / sizeof makers[0] };
 

@@ -136,3 +136,31 @@ void make_kept(struct group *group)
     }
     sheet->input[0] = 40;
 }
+
+static void put_less(struct sheet *sheet, unsigned first_kind, unsigned first, unsigned second_kind, unsigned second)
+{
+    put(sheet, 10);
+    put_named(sheet, first_kind, first);
+    put_named(sheet, second_kind, second);
+}
+
+void make_machines(struct group *group)
+{
+    struct sheet *const sheet = single(group, "32 counting machines");
+    put_header(sheet, 2, 32, kept_number_wire, 16);
+    for (unsigned wire = 0; wire < 32; wire++) {
+        put(sheet, 19);
+        put_less(sheet, 3, 0, 18, wire);
+        put_less(sheet, 18, wire, 3, 1);
+        put(sheet, 8);
+        put_named(sheet, 18, wire);
+        put_number(sheet, 1, wire + 1);
+        put(sheet, 9);
+        put_named(sheet, 18, wire);
+        if (wire > 0)
+            put_named(sheet, 2, wire / 2);
+        else
+            put_number(sheet, 1, 3);
+    }
+    sheet->input[0] = 40;
+}

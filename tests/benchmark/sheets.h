@@ -42,6 +42,9 @@ group_maker make_wide;
 group_maker make_deep;
 /* regular.c: each wire is kept and counts on from its last while the last of the wire at half its number is below the input: 64 cells. */
 group_maker make_kept;
+/* regular.c: each wire is kept and a machine, which counts up until its last is above the input, and then down, by the wire at half its
+ * number, until its last is below 0: 64 cells. */
+group_maker make_machines;
 /* irregular.c: eight random sheets of about 2,000 bytes, and eight of about 4,000. */
 group_maker make_irregular_2000;
 group_maker make_irregular_4000;

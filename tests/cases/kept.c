@@ -2,9 +2,7 @@
  * 20. Rests on the words of the rows, on the lists of the chains and on sheets of its own.
  */
 #include "cases/chains.h"
-#include "cases/rows.h"
-
-#define NOTHING {NULL, 0}
+#include "cases/ways.h"
 
 /* ---- Sheets for the check ---- */
 
@@ -83,31 +81,6 @@
 /* Two kept wires, each the last of the other. */
 #define LASTS_OF_EACH_OTHER 0, 2, 3, 3, 2, 0, 1, LAST(1), LAST(0)
 
-#define REFUSED(title, number, at, ...) {.name = title, .call = call_check, .sheet = BYTES(__VA_ARGS__), .refused = number, .place = at}
-#define PASSES(title, cells, ...) {.name = title, .call = call_check, .sheet = BYTES(__VA_ARGS__), .answer = cells}
-#define STARTS(title, bytes, before, ...) \
-    {.name = title, .call = call_start, .sheet = BYTES(bytes), .memory = before, .memory_after = BYTES(__VA_ARGS__)}
-
-/* An instant in rounds, so many of them, and along a list. The output row comes last, behind its length. */
-#define BOTH_WAYS(list, title, bytes, before, inputs, made, after, length, ...)                                                \
-    {.name = title, .call = call_rounds, .sheet = BYTES(bytes), .memory = before, .input = inputs, .output_length = length,    \
-     .answer = made, .memory_after = after, .output_after = BYTES(__VA_ARGS__)},                                               \
-    {.name = title " along a list", .call = call_scheduled, .sheet = BYTES(bytes), .memory = before, .input = inputs,          \
-     .output_length = length, .schedule = list, .memory_after = after, .output_after = BYTES(__VA_ARGS__)}
-
-/* The memory comes last, and is what it was afterwards. */
-#define REFUSED_IN_ROUNDS(title, number, at, length, bytes, ...)                                                               \
-    {.name = title, .call = call_rounds, .sheet = BYTES(bytes), .memory = BYTES(__VA_ARGS__), .output_length = length,         \
-     .refused = number, .place = at}
-#define REFUSED_ALONG(list, title, number, at, length, bytes, ...)                                                             \
-    {.name = title, .call = call_scheduled, .sheet = BYTES(bytes), .memory = BYTES(__VA_ARGS__), .output_length = length,      \
-     .schedule = list, .refused = number, .place = at}
-#define REFUSED_BOTH_WAYS(list, title, number, at, length, bytes, ...)                                                         \
-    {.name = title, .call = call_rounds, .sheet = BYTES(bytes), .memory = BYTES(__VA_ARGS__), .output_length = length,         \
-     .refused = number, .place = at},                                                                                          \
-    {.name = title " along a list", .call = call_scheduled, .sheet = BYTES(bytes), .memory = BYTES(__VA_ARGS__),               \
-     .output_length = length, .schedule = list, .refused = number, .place = at}
-
 static const struct row rows[] = {
     PASSES("64 kept wires", 64, KEPT_64),
     PASSES("64 kept wires, all a kind 18, which owns no cell", 64, LASTS_64),
@@ -135,7 +108,7 @@ static const struct row rows[] = {
     REFUSED("4: a wire of type 4 behind kept ones", 4, 4, 0, 3, 2, 3, 4),
     REFUSED("2: no type of wire 1 behind a kept one", 2, 3, 0, 2, 3),
 
-    REFUSED("6: kind 19", 6, 5, KEPT_NUMBER, 19, 0),
+    REFUSED("6: kind 20", 6, 5, KEPT_NUMBER, 20, 0),
     REFUSED("8: kind 18 on level 17", 8, 21, KEPT_NUMBER, TIMES_16(5), LAST(0)),
     REFUSED("8: kind 18 on level 17, its body cut", 8, 21, KEPT_NUMBER, TIMES_16(5), 18),
     PASSES("kind 18 on level 16", 1, KEPT_NUMBER, TIMES_15(5), LAST(0)),

@@ -50,6 +50,8 @@ enum { sixteen_bits = 65536 };
 
 /* Constants, a wire, an input and the last of a kept wire; and the head of a sheet of number wires without inputs, wire 0 the output. */
 #define BOOLEAN(value) 0, value
+#define ALWAYS BOOLEAN(1)
+#define NEVER BOOLEAN(0)
 #define CONSTANT(low) 1, NUMBER(low)
 #define WIRE(number) 2, number
 #define INPUT(number) 3, number

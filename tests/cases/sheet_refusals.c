@@ -48,10 +48,10 @@ static const struct row rows[] = {
     {.name = "5: more outputs than wires", .sheet = BYTES(0, 1, 1, 2, 0, 1), .refused = 5,
      .place = 5},
 
-    {.name = "6: kind 19", .sheet = BYTES(0, 1, 1, 1, 0, 19), .refused = 6, .place = 5},
+    {.name = "6: kind 20", .sheet = BYTES(0, 1, 1, 1, 0, 20), .refused = 6, .place = 5},
     {.name = "6: kind 255 as second operand",
      .sheet = BYTES(0, 1, 1, 1, 0, 8, 1, 0, 0, 0, 0, 255), .refused = 6, .place = 11},
-    {.name = "6: kind 19 on level 17", .sheet = BYTES(0, 1, 1, 1, 0, TIMES_16(5), 19),
+    {.name = "6: kind 20 on level 17", .sheet = BYTES(0, 1, 1, 1, 0, TIMES_16(5), 20),
      .refused = 6, .place = 21},
 
     {.name = "7: wire 1 of 1", .sheet = BYTES(0, 1, 1, 1, 0, 2, 1), .refused = 7, .place = 5},

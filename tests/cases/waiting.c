@@ -4,9 +4,6 @@
 #include "cases/chains.h"
 #include "cases/rows.h"
 
-#define ALWAYS BOOLEAN(1)
-#define NEVER BOOLEAN(0)
-
 /* Two or three number wires, of which wire 0 is the output; in the second wire 1 is a Boolean. */
 #define TWO_NUMBERS 0, 2, 1, 1, 1, 0
 #define NUMBER_AND_BOOLEAN 0, 2, 1, 0, 1, 0

@@ -41,6 +41,7 @@ enum kind {
     kind_number_pre = 16,
     kind_fby = 17,
     kind_last = 18,
+    kind_machine = 19,
     kinds
 };
 

@@ -65,6 +65,16 @@ void note_list_of_kept(struct harness *harness, const struct workspace *workspac
 /* The starting memory is in "given". */
 void demand_kept_start(struct harness *harness, const struct workspace *workspace);
 
+/* ---- machines.c ---- */
+
+/* Counts what the answer of the check, of the rounds and of an instant accepted along a list means for machines. */
+void note_check_of_machines(struct harness *harness, const struct workspace *workspace, uint32_t answer);
+void note_rounds_of_machines(struct harness *harness, const struct workspace *workspace, uint32_t rounds);
+void note_list_of_machines(struct harness *harness, const struct workspace *workspace);
+
+/* The starting memory is in "given". */
+void demand_machine_start(struct harness *harness, const struct workspace *workspace);
+
 /* ---- ends.c ---- */
 
 /* So many pairs of numbers at and near the ends, each in an instant both ways. Answers whether results of every sort were met. */

@@ -52,6 +52,7 @@ static uint32_t compare_rounds(struct harness *harness, struct workspace *worksp
     const uint32_t rounds = compare_call(harness, call_rounds, given, &workspace->by_rounds);
     demand_few_rounds(harness, workspace, rounds);
     note_rounds_of_kept(harness, workspace, rounds);
+    note_rounds_of_machines(harness, workspace, rounds);
     if (rounds / first_refusal == refused_as_unknown)
         count_loop(count, given, rounds % first_refusal);
     if (rounds >= first_refusal)
@@ -100,6 +101,7 @@ bool compare_instant(struct harness *harness, struct workspace *workspace, bool 
         report_mismatch(harness, call_scheduled, given, "demand 3: rounds and schedule differ");
     harness->statistics.count[counter_instants_both_ways]++;
     note_list_of_kept(harness, workspace);
+    note_list_of_machines(harness, workspace);
     return true;
 }
 
@@ -139,6 +141,7 @@ void compare_start(struct harness *harness, struct workspace *workspace)
     if (compare_call(harness, call_start, given, given) != 0)
         report_mismatch(harness, call_start, given, "the right length of memory is refused");
     demand_kept_start(harness, workspace);
+    demand_machine_start(harness, workspace);
 }
 
 void compare_instants(struct harness *harness, struct workspace *workspace)

@@ -8,11 +8,10 @@
 
 #include <string.h>
 
-enum { first_kind_above = 19, kind_last = 18, highest_kept_type = 3 };
+enum { kind_last = 18, highest_kept_type = 3 };
 
 enum {
     refused_type = 4,
-    refused_kind = 6,
     refused_body = 7,
     refused_type_asked = 9,
     refused_cells = 10,
@@ -70,9 +69,6 @@ void note_check_of_kept(struct harness *harness, const struct workspace *workspa
     case refused_type:
         count_refused_type(count, sheet, place);
         break;
-    case refused_kind:
-        count[counter_kinds_19_refused] += sheet[place] == first_kind_above;
-        break;
     case refused_body:
         count_refused_body(count, sheet, place);
         break;
@@ -129,7 +125,7 @@ static bool holds_something(const struct workspace *workspace, uint64_t wires)
     return holds;
 }
 
-_Static_assert(counter_lasts_right_of_fby == counter_lasts_under_pre + above_right_of_fby, "counted in the order of what may be above");
+_Static_assert(counter_lasts_in_body == counter_lasts_under_pre + aboves - 1, "counted in the order of what may be above");
 
 static void count_lasts(unsigned long *count, const struct workspace *workspace)
 {
@@ -137,7 +133,7 @@ static void count_lasts(unsigned long *count, const struct workspace *workspace)
     const struct buffer *const sheet = &given->of[role_sheet];
     const struct lasts lasts = evaluator_lasts(sheet->bytes, sheet->length, given->of[role_memory].bytes, given->of[role_input].bytes);
     count[counter_lasts_given] += lasts.given != 0;
-    count[counter_lasts_given_under_firing_reset] += holds_something(workspace, lasts.given_fresh);
+    count[counter_lasts_given_fresh] += holds_something(workspace, lasts.given_fresh);
     for (unsigned above = 0; above < aboves; above++)
         count[counter_lasts_under_pre + above] += workspace->subject.generator.above_lasts >> above & 1;
 }

@@ -72,6 +72,7 @@ static void run_case(struct harness *harness, struct workspace *workspace)
     if (subject->as_generated && answer != subject->generator.cells)
         report_mismatch(harness, call_check, given, "a sheet correct by construction is refused");
     note_check_of_kept(harness, workspace, answer);
+    note_check_of_machines(harness, workspace, answer);
     subject->passed_check = answer < first_refusal;
     if (subject->passed_check)
         note_subject(harness, workspace, answer);

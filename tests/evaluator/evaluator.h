@@ -45,12 +45,26 @@ struct stuck {
 struct stuck evaluator_stuck(const uint8_t *sheet, size_t sheet_length, const uint8_t *memory, const uint8_t *input);
 
 /* What else is to be said of an instant in rounds that is accepted: the kept wires whose cell a kind 18 gave, and those where one did so
- * under a reset that fires; one bit each. */
+ * in a fresh place; one bit each. */
 struct lasts {
     uint64_t given;
     uint64_t given_fresh;
 };
 
 struct lasts evaluator_lasts(const uint8_t *sheet, size_t sheet_length, const uint8_t *memory, const uint8_t *input);
+
+/* And of its machines: how many ran; how many of these entered their other state, and in places not fresh came into or out of a body whose
+ * memory was away from its start; how many were in state 1 and fresh; and whether the instant would be refused 20 if a machine were unknown
+ * also where the body that rests is. */
+struct machines {
+    unsigned run;
+    unsigned entered;
+    unsigned entered_away;
+    unsigned left_away;
+    unsigned fresh_in_state_1;
+    bool accepted_by_rest;
+};
+
+struct machines evaluator_machines(const uint8_t *sheet, size_t sheet_length, const uint8_t *memory, const uint8_t *input);
 
 #endif

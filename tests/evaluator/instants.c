@@ -220,6 +220,20 @@ struct lasts evaluator_lasts(const uint8_t *sheet, size_t sheet_length, const ui
     return trial.instant.lasts;
 }
 
+struct machines evaluator_machines(const uint8_t *sheet, size_t sheet_length, const uint8_t *memory, const uint8_t *input)
+{
+    struct trial trial;
+    struct machines machines = {0};
+    make_trial(&trial, sheet, sheet_length, memory, input);
+    trial.instant.machines = &machines;
+    store_cells(&trial.instant);
+    memcpy(trial.memory, memory, (size_t)bytes_of_cell * trial.layout.cells);
+    trial.instant.no_body_rests = true;
+    (void)work_out_rounds(&trial.instant, trial.values);
+    machines.accepted_by_rest = lowest_unknown(&trial.instant) < trial.layout.wires;
+    return machines;
+}
+
 /* The instant on a copy of the memory. One longer than any sheet has cells for is refused by its length alone. */
 uint32_t evaluator_preview(const uint8_t *sheet, size_t sheet_length, const uint8_t *memory, size_t memory_length,
                            const uint8_t *input, size_t input_length, uint8_t *output, size_t output_length)

@@ -17,7 +17,7 @@ struct shape {
     uint8_t body;
     uint8_t operands;
     uint8_t type;
-    uint8_t operand_types[3];
+    uint8_t operand_types[4];
 };
 
 /* What one reading of a sheet finds out, so that nothing after the check looks for it again. */
@@ -53,13 +53,21 @@ struct instant {
     unsigned next_cell;
     const struct value *wires;
     const uint8_t *input;
-    uint8_t *memory;    /* written by the storing alone */
-    struct lasts lasts; /* met so far */
+    uint8_t *memory;           /* written by the storing alone */
+    struct lasts lasts;        /* met so far */
+    struct machines *machines; /* advanced so far; not noted where there is none */
+    bool no_body_rests;        /* to be asked what would be then: a machine is unknown also where the body that does not run is */
 };
+
+/* Whether the last operand of a kind is worked out for the next instant alone. */
+static inline bool delays_operand(unsigned kind)
+{
+    return kind >= kind_boolean_pre && kind <= kind_fby;
+}
 
 static inline bool owns_cell(unsigned kind)
 {
-    return kind >= kind_boolean_pre && kind <= kind_fby;
+    return delays_operand(kind) || kind == kind_machine;
 }
 
 /* Whether a cell belongs to an fby: only then it may have mark 0. */
@@ -106,6 +114,27 @@ void pass_over(struct instant *instant);
 
 /* Works out the expression that comes next and moves behind it. */
 struct value value_of(struct instant *instant, bool fresh);
+
+/* ---- machines.c ---- */
+
+/* The operands of a machine in their order: the conditions of states 0 and 1, then the bodies of states 0 and 1. */
+enum { machine_conditions = 2, machine_operands = 4 };
+
+/* What an operand of a machine does in an instant: it runs, fresh or not, or it rests. */
+struct turn {
+    bool runs;
+    bool fresh;
+};
+
+/* The current state of the machine whose operands come next; moves behind its cell. */
+unsigned take_state(struct instant *instant, bool fresh);
+
+/* What an operand does, where the state is current, the whole is fresh or not and the asked condition has this value. What a condition does
+ * does not depend on that value, so that an operand's turn can be told as soon as those before it are worked out. */
+struct turn turn_of(unsigned operand, unsigned state, struct value condition, bool fresh);
+
+/* Notes what is to be said of a machine whose bodies come next and are to advance; its cell, given here, is not stored yet. */
+void note_machine(const struct instant *instant, const uint8_t *cell, bool leaves, bool fresh);
 
 /* ---- loops.c ---- */
 

@@ -23,7 +23,8 @@ const struct shape shapes[] = {
     [kind_boolean_pre] = {1, 1, type_boolean, {type_boolean}},
     [kind_number_pre] = {4, 1, type_number, {type_number}},
     [kind_fby] = {0, 2, type_asked, {type_asked, type_asked}},
-    [kind_last] = {1, 0, type_asked, {0}}
+    [kind_last] = {1, 0, type_asked, {0}},
+    [kind_machine] = {0, 4, type_asked, {type_boolean, type_boolean, type_asked, type_asked}}
 };
 
 static uint32_t read_count(struct layout *layout, unsigned least, unsigned most, unsigned *count)
@@ -117,7 +118,7 @@ static uint32_t check_kind(const struct layout *layout, unsigned level)
     if (place >= layout->length)
         return refusal(2, layout->length);
     const unsigned kind = layout->sheet[place];
-    if (kind > kind_last)
+    if (kind >= kinds)
         return refusal(6, place);
     if (level > deepest_level)
         return refusal(8, place);
@@ -144,7 +145,7 @@ static void note_expression(struct layout *layout, unsigned wire, unsigned asked
         layout->wire_reads[wire] |= UINT64_C(1) << layout->sheet[place + 1];
     if (owns_cell(kind)) {
         layout->cells++;
-        number_cell(layout, place, asked);
+        number_cell(layout, place, kind == kind_machine ? type_boolean : asked);
     }
 }
 
@@ -160,7 +161,7 @@ static uint32_t read_expression(struct layout *layout, unsigned wire, unsigned a
     note_expression(layout, wire, asked, delayed);
     for (unsigned index = 0; index < shape->operands && refused == 0; index++) {
         const unsigned type = shape->operand_types[index];
-        const bool operand_delayed = delayed || (owns_cell(kind) && index + 1 == shape->operands);
+        const bool operand_delayed = delayed || (delays_operand(kind) && index + 1 == shape->operands);
         refused = read_expression(layout, wire, type == type_asked ? asked : type, level + 1, operand_delayed);
     }
     return refused;

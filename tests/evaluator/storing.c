@@ -14,17 +14,20 @@ static void write_cell(uint8_t *cell, uint8_t mark, uint32_t number)
     write_number(cell + 1, number);
 }
 
-void start_cell(const struct layout *layout, unsigned cell, uint8_t *memory)
+/* That of a pre is its constant; all other cells start as 0. */
+static uint32_t starting_number(const struct layout *layout, unsigned cell)
 {
-    const unsigned place = layout->cell_place[cell];
-    uint8_t *const bytes = memory + bytes_of_cell * cell;
-    if (belongs_to_fby(layout, cell))
-        write_cell(bytes, 0, 0);
-    else
-        write_cell(bytes, 1, place != 0 ? starting_constant(layout->sheet + place) : 0);
+    const uint8_t *const owner = layout->sheet + layout->cell_place[cell];
+    const bool of_pre = layout->cell_place[cell] != 0 && (*owner == kind_boolean_pre || *owner == kind_number_pre);
+    return of_pre ? starting_constant(owner) : 0;
 }
 
-/* Goes over an arm that is not chosen. Its memory is kept, or started again if fresh. */
+void start_cell(const struct layout *layout, unsigned cell, uint8_t *memory)
+{
+    write_cell(memory + bytes_of_cell * cell, !belongs_to_fby(layout, cell), starting_number(layout, cell));
+}
+
+/* Goes over an arm that is not chosen, or an operand that rests. Its memory is kept, or started again if fresh. */
 static void keep_or_start(struct instant *instant, bool fresh)
 {
     const unsigned first_cell = instant->next_cell;
@@ -79,6 +82,28 @@ static uint32_t advance_fby(struct instant *instant, bool fresh)
     return number;
 }
 
+/* Stores the state whose body ran. */
+static uint32_t advance_machine(struct instant *instant, bool fresh)
+{
+    uint8_t *const cell = instant->memory + bytes_of_cell * instant->next_cell;
+    const unsigned state = take_state(instant, fresh);
+    struct value condition = {0, false};
+    uint32_t body = 0;
+    for (unsigned operand = 0; operand < machine_operands; operand++) {
+        const struct turn turn = turn_of(operand, state, condition, fresh);
+        if (operand == machine_conditions && instant->machines != NULL)
+            note_machine(instant, cell, condition.number != 0, fresh);
+        if (!turn.runs)
+            keep_or_start(instant, fresh);
+        else if (operand < machine_conditions)
+            condition = (struct value){advance(instant, turn.fresh), true};
+        else
+            body = advance(instant, turn.fresh);
+    }
+    write_cell(cell, 1, condition.number != 0 ? 1 - state : state);
+    return body;
+}
+
 /* Advances the expression that comes next, answers its value, which is known, and moves behind it. */
 static uint32_t advance(struct instant *instant, bool fresh)
 {
@@ -102,6 +127,8 @@ static uint32_t advance(struct instant *instant, bool fresh)
         return advance_pre(instant, expression, fresh);
     case kind_fby:
         return advance_fby(instant, fresh);
+    case kind_machine:
+        return advance_machine(instant, fresh);
     default:
         return advance_two_operands(instant, kind, fresh);
     }

@@ -137,6 +137,27 @@ static struct value value_of_fby(struct instant *instant, bool fresh)
     return value;
 }
 
+/* An unknown condition gives unknown, a known one the value of the body that runs. */
+static struct value value_of_machine(struct instant *instant, bool fresh)
+{
+    const unsigned state = take_state(instant, fresh);
+    struct value condition = unknown_value();
+    struct value body = unknown_value();
+    bool others_known = true;
+    for (unsigned operand = 0; operand < machine_operands; operand++) {
+        const struct turn turn = turn_of(operand, state, condition, fresh);
+        if (turn.runs && operand < machine_conditions)
+            condition = value_of(instant, turn.fresh);
+        else if (turn.runs)
+            body = value_of(instant, turn.fresh);
+        else if (operand >= machine_conditions && instant->no_body_rests)
+            others_known = value_of(instant, fresh).known && others_known;
+        else
+            pass_over(instant);
+    }
+    return others_known ? body : unknown_value();
+}
+
 /* Fresh or not, the value is that of the cell, since no reset touches it. */
 static struct value value_of_last(struct instant *instant, unsigned wire, bool fresh)
 {
@@ -176,6 +197,8 @@ struct value value_of(struct instant *instant, bool fresh)
         return value_of_fby(instant, fresh);
     case kind_last:
         return value_of_last(instant, expression[1], fresh);
+    case kind_machine:
+        return value_of_machine(instant, fresh);
     default:
         return value_of_two_operands(instant, kind, fresh);
     }

@@ -59,6 +59,24 @@ static uint64_t waits_of_fby(struct instant *instant, bool fresh)
     return waits;
 }
 
+/* The asked condition counts, and once it is known the body that runs. */
+static uint64_t waits_of_machine(struct instant *instant, bool fresh)
+{
+    const unsigned state = take_state(instant, fresh);
+    struct value condition = {0, false};
+    uint64_t waits = 0;
+    for (unsigned operand = 0; operand < machine_operands; operand++) {
+        const struct turn turn = turn_of(operand, state, condition, fresh);
+        if (turn.runs && operand < machine_conditions)
+            condition = value_ahead(instant, turn.fresh);
+        if (turn.runs)
+            waits |= waits_of(instant, turn.fresh);
+        else
+            pass_over(instant);
+    }
+    return waits;
+}
+
 /* The wires from which the expression that comes next is worked out, one bit each; moves behind it. */
 static uint64_t waits_of(struct instant *instant, bool fresh)
 {
@@ -78,6 +96,8 @@ static uint64_t waits_of(struct instant *instant, bool fresh)
         return waits_of_reset(instant, fresh);
     case kind_fby:
         return waits_of_fby(instant, fresh);
+    case kind_machine:
+        return waits_of_machine(instant, fresh);
     default:
         return waits_of_operands(instant, shapes[kind].operands, fresh);
     }

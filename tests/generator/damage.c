@@ -7,10 +7,10 @@
 
 static unsigned strange_byte(struct random *random)
 {
-    static const uint8_t strange[] = {0, 1, 2, 3, 4, 16, 17, 18, 19, 63, 64, 65, 128, 255};
+    static const uint8_t strange[] = {0, 1, 2, 3, 4, 16, 17, 18, 19, 20, 63, 64, 65, 128, 255};
     if (percent(random, 30))
         return strange[below(random, sizeof strange)];
-    return below(random, percent(random, 70) ? 20 : 256);
+    return below(random, percent(random, 70) ? 21 : 256);
 }
 
 static void insert_byte(struct buffer *buffer, size_t place, unsigned byte)
@@ -90,7 +90,7 @@ static void generate_random_expressions(struct generator *generator)
     const unsigned length = below(random, 30);
     sheet->length = 1 + generator->plan.inputs + 1 + generator->plan.wires + 1 + generator->plan.outputs;
     for (unsigned index = 0; index < length; index++)
-        append(sheet, below(random, percent(random, 90) ? 19 : 256));
+        append(sheet, below(random, percent(random, 90) ? 20 : 256));
 }
 
 void damage_sheet(struct generator *generator)

@@ -92,6 +92,13 @@ static void choose_kept(struct random *random, struct plan *plan)
     plan->stray_share = percent(random, 15) ? between(random, 1, 20) : 0;
 }
 
+/* Half of the sheets have no machines. */
+static void choose_machines(struct random *random, struct plan *plan)
+{
+    if (percent(random, 50))
+        plan->machine_share = between(random, 5, 40);
+}
+
 static enum reading choose_reading(struct random *random)
 {
     const unsigned reading = below(random, 100);
@@ -107,6 +114,7 @@ void choose_plan(struct random *random, struct plan *plan)
     *plan = (struct plan){0};
     choose_size(random, plan);
     choose_kept(random, plan);
+    choose_machines(random, plan);
     plan->inputs = percent(random, 90) ? below(random, 6) : between(random, 6, most_inputs);
     plan->outputs = between(random, 1, plan->wires < most_outputs ? plan->wires : most_outputs);
     plan->wild_share = between(random, 1, 20);

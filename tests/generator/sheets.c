@@ -101,13 +101,26 @@ static void generate_leaf(struct generator *generator, unsigned asked, bool dela
     append_constant(generator, asked);
 }
 
+static bool wants_cells(const struct generator *generator)
+{
+    return generator->cells + generator->kept_to_come < generator->plan.cells_wanted;
+}
+
+/* Where there are to be no machines, none is drawn for: so the sheets of a seed are what they were before there were any. */
+static bool wants_machine(struct generator *generator, unsigned share)
+{
+    return generator->plan.machine_share != 0 && wants_cells(generator) && percent(generator->random, share);
+}
+
 static unsigned choose_kind(struct generator *generator, unsigned asked)
 {
     static const uint8_t boolean_kinds[] = {4, 6, 7, 10, 11, 12, 13, 13, 14, 14};
     static const uint8_t number_kinds[] = {5, 8, 8, 9, 12, 13, 13, 14, 14};
     struct random *const random = generator->random;
-    if (generator->cells + generator->kept_to_come < generator->plan.cells_wanted && percent(random, generator->plan.cell_share))
+    if (wants_cells(generator) && percent(random, generator->plan.cell_share))
         return below(random, 2) == 0 ? 17 : 15 + asked;
+    if (wants_machine(generator, generator->plan.machine_share))
+        return 19;
     if (asked == 0)
         return boolean_kinds[below(random, sizeof boolean_kinds)];
     return number_kinds[below(random, sizeof number_kinds)];
@@ -115,18 +128,26 @@ static unsigned choose_kind(struct generator *generator, unsigned asked)
 
 static unsigned count_of_operands(unsigned kind)
 {
+    if (kind == 19)
+        return 4;
     if (kind == 12 || kind == 13)
         return 3;
     return kind == 4 || kind == 5 || kind == 15 || kind == 16 ? 1 : 2;
+}
+
+/* They come before the other operands. */
+static unsigned count_of_conditions(unsigned kind)
+{
+    if (kind == 19)
+        return 2;
+    return kind >= 12 && kind <= 14 ? 1 : 0;
 }
 
 static unsigned type_of_operand(unsigned kind, unsigned operand, unsigned asked)
 {
     if (kind == 10 || kind == 11)
         return 1;
-    if (kind >= 12 && kind <= 14 && operand == 0)
-        return 0;
-    return asked;
+    return operand < count_of_conditions(kind) ? 0 : asked;
 }
 
 /* What an operand stands under, one bit or none. */
@@ -138,8 +159,10 @@ static unsigned above_operand(unsigned kind, unsigned operand)
         return 1u << (operand == 0 ? above_left_of_fby : above_right_of_fby);
     if (kind < 12)
         return 0;
-    if (operand == 0)
+    if (operand < count_of_conditions(kind))
         return 1u << above_condition;
+    if (kind == 19)
+        return 1u << above_body;
     return 1u << (kind == 14 ? above_reset : above_arm);
 }
 
@@ -150,6 +173,14 @@ static void note_cell(struct generator *generator, unsigned kind, unsigned type)
     generator->cells++;
 }
 
+/* Its cell is a Boolean's, whatever is asked of it. */
+static void note_machine(struct generator *generator)
+{
+    note_cell(generator, 19, 0);
+    generator->machines++;
+    generator->above_machines |= generator->above;
+}
+
 static void generate_node(struct generator *generator, unsigned kind, unsigned asked,
                           unsigned level, bool delayed, bool spine)
 {
@@ -157,7 +188,9 @@ static void generate_node(struct generator *generator, unsigned kind, unsigned a
     const unsigned spine_operand = spine ? below(generator->random, operands) : operands;
     const unsigned above = generator->above;
     append(generator->sheet, kind);
-    if (kind >= 15)
+    if (kind == 19)
+        note_machine(generator);
+    else if (kind >= 15)
         note_cell(generator, kind, asked);
     if (kind == 15 || kind == 16)
         append_constant(generator, asked);
@@ -185,6 +218,35 @@ static void generate_expression(struct generator *generator, unsigned asked, uns
         generate_node(generator, choose_kind(generator, asked), asked, level, delayed, spine);
 }
 
+/* Present input 0 do what reads by rising rank else what reads by falling. */
+static void generate_two_arms(struct generator *generator, unsigned asked)
+{
+    append(generator->sheet, 13);
+    append(generator->sheet, 3);
+    append(generator->sheet, 0);
+    generator->above = 1u << above_arm;
+    generate_expression(generator, asked, 2, false, generator->plan.spine);
+    generator->falling = true;
+    generate_expression(generator, asked, 2, false, false);
+    generator->above = 0;
+}
+
+/* A machine that leaves state 0 where input 0 holds and state 1 where it does not: body 1 runs where the first of two arms would, whatever
+ * the state was. */
+static void generate_two_bodies(struct generator *generator, unsigned asked)
+{
+    static const uint8_t machine_and_conditions[] = {19, 3, 0, 4, 3, 0};
+    for (unsigned index = 0; index < sizeof machine_and_conditions; index++)
+        append(generator->sheet, machine_and_conditions[index]);
+    note_machine(generator);
+    generator->above = 1u << above_body;
+    generator->falling = true;
+    generate_expression(generator, asked, 2, false, generator->plan.spine);
+    generator->falling = false;
+    generate_expression(generator, asked, 2, false, false);
+    generator->above = 0;
+}
+
 static void generate_wire_expression(struct generator *generator, unsigned wire)
 {
     const unsigned asked = generator->wire_types[wire];
@@ -197,18 +259,12 @@ static void generate_wire_expression(struct generator *generator, unsigned wire)
     }
     generator->wire_end = generator->sheet->length + generator->plan.wire_bytes;
     generator->falling = false;
-    if (generator->plan.reading != reading_two_way) {
+    if (generator->plan.reading != reading_two_way)
         generate_expression(generator, asked, 1, false, generator->plan.spine);
-        return;
-    }
-    append(generator->sheet, 13);
-    append(generator->sheet, 3);
-    append(generator->sheet, 0);
-    generator->above = 1u << above_arm;
-    generate_expression(generator, asked, 2, false, generator->plan.spine);
-    generator->falling = true;
-    generate_expression(generator, asked, 2, false, false);
-    generator->above = 0;
+    else if (wants_machine(generator, 60))
+        generate_two_bodies(generator, asked);
+    else
+        generate_two_arms(generator, asked);
 }
 
 static void generate_header(struct generator *generator)

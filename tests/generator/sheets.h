@@ -1,5 +1,5 @@
 /* Random sheets that are correct by construction: the plan of a sheet, and the generator that writes a sheet by a plan and knows its
- * cells, its reads and its kinds 18. Rests on random.h and buffer.h.
+ * cells, its reads, its kinds 18 and its machines. Rests on random.h and buffer.h.
  */
 #ifndef GENERATOR_SHEETS_H
 #define GENERATOR_SHEETS_H
@@ -21,11 +21,11 @@ enum reading {
     reading_backward, /* only wires of lower rank: a schedule exists */
     reading_mixed,    /* mostly so */
     reading_wild,     /* any wire */
-    reading_two_way   /* one arm by rising rank, the other by falling: cyclic, yet accepted */
+    reading_two_way   /* one arm or body by rising rank, the other by falling: cyclic, yet accepted */
 };
 
-/* What a kind 18 may stand under; an arm is that of an if or a present. */
-enum above { above_pre, above_arm, above_condition, above_reset, above_left_of_fby, above_right_of_fby, aboves };
+/* What a kind 18 or a machine may stand under; an arm is that of an if or a present, a body that of a machine, and a condition any of theirs. */
+enum above { above_pre, above_arm, above_condition, above_reset, above_left_of_fby, above_right_of_fby, above_body, aboves };
 
 /* How a sheet is to be; the shares are in percent. Levels, cells and bytes may be above their limits, and then so is the sheet. */
 struct plan {
@@ -34,17 +34,18 @@ struct plan {
     unsigned outputs;
     unsigned deepest;
     unsigned cells_wanted;
-    unsigned cell_share;  /* of the expressions with operands, while there are fewer cells than wanted */
-    unsigned kept_share;  /* of the wires; with 0 there are no kept wires and no kinds 18 */
-    unsigned leaf_share;  /* of the expressions above the deepest level */
-    unsigned last_share;  /* of the leaves: kinds 18 */
-    unsigned stray_share; /* of these: they name any wire, there or not, which mostly breaks a rule */
-    unsigned wild_share;  /* of the readings, for reading_mixed */
-    unsigned wire_share;  /* of the other leaves */
-    unsigned wire_bytes;  /* an expression comes to its end behind so many bytes */
-    size_t sheet_bytes;   /* and every expression does behind so many */
-    bool spine;           /* every wire's expression reaches the deepest level */
-    bool chain;           /* wires like to read the wire of the next lower rank: many rounds */
+    unsigned cell_share;    /* of the expressions with operands: pres and fbys, while there are fewer cells than wanted */
+    unsigned machine_share; /* of the others, likewise */
+    unsigned kept_share;    /* of the wires; with 0 there are no kept wires and no kinds 18 */
+    unsigned leaf_share;    /* of the expressions above the deepest level */
+    unsigned last_share;    /* of the leaves: kinds 18 */
+    unsigned stray_share;   /* of these: they name any wire, there or not, which mostly breaks a rule */
+    unsigned wild_share;    /* of the readings, for reading_mixed */
+    unsigned wire_share;    /* of the other leaves */
+    unsigned wire_bytes;    /* an expression comes to its end behind so many bytes */
+    size_t sheet_bytes;     /* and every expression does behind so many */
+    bool spine;             /* every wire's expression reaches the deepest level */
+    bool chain;             /* wires like to read the wire of the next lower rank: many rounds */
     enum reading reading;
 };
 
@@ -70,8 +71,10 @@ struct generator {
     unsigned kept_cell[most_wires];
     uint64_t reads[most_wires];
     uint64_t lasts[most_wires]; /* the wires that its kinds 18 name */
-    unsigned above;             /* what the expression at hand stands under, one bit for each */
-    unsigned above_lasts;       /* what any kind 18 stands under */
+    unsigned machines;
+    unsigned above;          /* what the expression at hand stands under, one bit for each */
+    unsigned above_lasts;    /* what any kind 18 stands under */
+    unsigned above_machines; /* what any machine stands under */
 };
 
 void choose_plan(struct random *random, struct plan *plan);

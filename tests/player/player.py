@@ -14,10 +14,12 @@ PLAYER = ROOT / 'target/bin/player'
 MOST = 65536
 SEED = 1
 
-# Sheets, without their length: no inputs and a count of instants in two wires, and by a kept wire; one number that is given back; one
-# Boolean that is.
+# Sheets, without their length: no inputs and a count of instants in two wires, by a kept wire, and by a machine that counts up to 3 and down to
+# 0; one number that is given back; one Boolean that is.
 COUNTING = bytes([0, 1, 1, 1, 0, 8, 16, 0, 0, 0, 0, 2, 0, 1, 1, 0, 0, 0])
 COUNTING_KEPT = bytes([0, 1, 3, 1, 0, 8, 18, 0, 1, 1, 0, 0, 0])
+COUNTING_MACHINE = bytes([0, 1, 1, 1, 0, 19, 11, 16, 0, 0, 0, 0, 2, 0, 1, 3, 0, 0, 0, 11, 16, 9, 0, 0, 0, 2, 0, 1, 0, 0, 0, 0,
+                          8, 16, 0, 0, 0, 0, 2, 0, 1, 1, 0, 0, 0, 9, 16, 3, 0, 0, 0, 2, 0, 1, 1, 0, 0, 0])
 ECHO = bytes([1, 1, 1, 1, 1, 0, 3, 0])
 ECHO_BOOLEAN = bytes([1, 0, 1, 0, 1, 0, 3, 0])
 # A wire that is itself, which stays unknown; one that stays unknown from the first true input on.
@@ -60,7 +62,8 @@ def edges():
         'length 65534, all its bytes': b'\xfe\xff' + bytes(65534),
         'length 4097': with_length(bytes(4097)),
         'a sheet refused': with_length(ECHO[:-1] + b'\x01'),
-        'a sheet refused, rows behind it': with_length(ECHO[:-2] + b'\x13\x00', bytes(12)),
+        'a sheet refused, rows behind it': with_length(ECHO[:-2] + b'\x14\x00', bytes(12)),
+        'a machine without operands': with_length(ECHO[:-2] + b'\x13', bytes(12)),
         'kind 18 of a wire that is not kept': with_length(ECHO[:-2] + b'\x12\x00', bytes(12)),
         'no rows': with_length(ECHO),
         'numbers of every sign and length': with_length(ECHO, rows),
@@ -72,6 +75,7 @@ def edges():
         'no inputs': with_length(COUNTING),
         'no inputs, bytes behind the sheet': with_length(COUNTING, bytes(range(23))),
         'no inputs, a kept wire': with_length(COUNTING_KEPT),
+        'no inputs, a machine': with_length(COUNTING_MACHINE),
         'no inputs, 20 at the first instant': with_length(LOOP, bytes(3)),
         '20 at the third instant': with_length(LOOP_LATER, word(0) + word(0) + word(1) + word(0)),
         'exactly 65536 bytes': full[:MOST],
@@ -91,7 +95,7 @@ def damaged(rng, data):
         at = rng.randrange(len(part) + 1)
         kind = rng.randrange(3)
         if kind == 0:
-            part[at:at + 1] = bytes([rng.choice([0, 1, 2, 3, 12, 13, 14, 17, 18, rng.randrange(256)])])
+            part[at:at + 1] = bytes([rng.choice([0, 1, 2, 3, 12, 13, 14, 17, 18, 19, rng.randrange(256)])])
         elif kind == 1:
             del part[at:at + rng.randrange(1, 6)]
         else:
@@ -117,7 +121,7 @@ def expression(rng, number, names, level):
     own = [(bytes([5]), [1]), (bytes([8]), [1, 1]), (bytes([9]), [1, 1])] if number else [
         (bytes([4]), [0]), (bytes([6]), [0, 0]), (bytes([7]), [0, 0]), (bytes([10]), [1, 1]), (bytes([11]), [1, 1])]
     shared = [(bytes([12]), [0, number, number]), (bytes([13]), [0, number, number]), (bytes([14]), [0, number]),
-              (bytes([17]), [number, number]), (constant(15), [number]), (constant(15), [number])]
+              (bytes([17]), [number, number]), (bytes([19]), [0, 0, number, number]), (constant(15), [number]), (constant(15), [number])]
     head, operands = rng.choice(own + shared)
     return head + of(operands)
 

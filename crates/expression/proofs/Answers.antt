@@ -20,7 +20,7 @@ use Rattle.leaves.specs.Leaves.{knownBy, leafValued, lastValued}
 use Rattle.expression.proofs.Views.{placed, readable, own-types}
 use Rattle.expression.proofs.Views.{unary-view, binary-view, conditional-view, present-view, reset-view, fby-view, pre-view}
 use Rattle.expression.proofs.Values.{as-known, as-unknown, Answers, Walked, by-value, by-walk, value-behind, walk-behind}
-use Rattle.expression.proofs.Values.{unary-value, binary-value, choose-value, reset-value}
+use Rattle.expression.proofs.Values.{unary-value, binary-value, conditional-value, present-value, reset-value}
 use Rattle.expression.proofs.Giving.{unary-gives, binary-gives, conditional-gives, present-gives-first, present-gives-second}
 use Rattle.expression.proofs.Giving.{reset-gives, fby-left, fby-gives-left, fby-gives-cell, pre-gives, leaf-value, leaf-gives, last-gives}
 
@@ -75,7 +75,7 @@ module _ {sheet memory words : List ℕ} {bits level asked at cell : ℕ}
     pub conditional-unknown : c .known ≡ false → wholeValue p fresh ≡ Unknown
     conditional-unknown ends =
         let w = conditional-view p of in
-        choose-value p fresh w ∙ rw (as-unknown (hc _ (placed p (w .first))) ends)
+        conditional-value p fresh w ∙ rw (as-unknown (hc _ (placed p (w .first))) ends)
 
     module _ (holds : c .known ≡ true) {a : Valued} (ha : Answers p (c .next) (c .cell) fresh a) where
       conditional-first : Gives (placed p (conditional-view p of .first)) fresh (c .word) (c .next) (c .cell)
@@ -87,7 +87,7 @@ module _ {sheet memory words : List ℕ} {bits level asked at cell : ℕ}
       pub conditional-unknown-arm : a .known ≡ false → wholeValue p fresh ≡ Unknown
       conditional-unknown-arm ends =
           let w = conditional-view p of in
-          choose-value p fresh w ∙ rw (conditional-first .value, as-unknown conditional-second ends)
+          conditional-value p fresh w ∙ rw (conditional-first .value, as-unknown conditional-second ends)
 
       pub conditional-answer : a .known ≡ true → {b : Valued} → Answers p (a .next) (a .cell) fresh b → {v : ℕ}
           → v ≡ cond (eqb (c .word) 1) (a .word) (b .word)
@@ -100,14 +100,14 @@ module _ {sheet memory words : List ℕ} {bits level asked at cell : ℕ}
               → Yields (placed p (conditional-view p of .third)) fresh b
               → Yields p fresh (record { next = b .next; word = v; cell = b .cell; known = b .known })
           by g (unknown ends u) =
-              unknown ends (choose-value p fresh (conditional-view p of) ∙ rw (conditional-first .value, g .value, u))
+              unknown ends (conditional-value p fresh (conditional-view p of) ∙ rw (conditional-first .value, g .value, u))
           by g (known h f) = known h (conditional-gives p fresh of conditional-first g f is)
 
   module _ (of : kind ≡ 13) {c : Valued} (hc : Answers p (at + 1) cell fresh c) where
     pub present-unknown : c .known ≡ false → wholeValue p fresh ≡ Unknown
     present-unknown ends =
         let w = present-view p of in
-        choose-value p fresh w ∙ rw (as-unknown (hc _ (placed p (w .first))) ends)
+        present-value p fresh w ∙ rw (as-unknown (hc _ (placed p (w .first))) ends)
 
     module _ (there : c .known ≡ true) where
       present-condition : Gives (placed p (present-view p of .first)) fresh (c .word) (c .next) (c .cell)
@@ -119,7 +119,7 @@ module _ {sheet memory words : List ℕ} {bits level asked at cell : ℕ}
 
         pub present-unknown-arm : a .known ≡ false → wholeValue p fresh ≡ Unknown
         present-unknown-arm ends =
-            choose-value p fresh (present-view p of) ∙ rw (present-condition .value, holds) (as-unknown present-arm ends)
+            present-value p fresh (present-view p of) ∙ rw (present-condition .value, holds) (as-unknown present-arm ends)
 
         pub present-answer-first : a .known ≡ true → {b : Skipped} → Walked p (a .next) (a .cell) b
             → Yields p fresh (record { next = b .next; word = a .word; cell = b .cell; known = true })
@@ -138,7 +138,7 @@ module _ {sheet memory words : List ℕ} {bits level asked at cell : ℕ}
         where
           by : Yields (placed p (present-view p of .third)) fresh b → Yields p fresh b
           by (unknown ends u) =
-              unknown ends (choose-value p fresh (present-view p of) ∙ rw (present-condition .value, ne-eqb (c .word) 1 fails) u)
+              unknown ends (present-value p fresh (present-view p of) ∙ rw (present-condition .value, ne-eqb (c .word) 1 fails) u)
           by (known h f) = known h (present-gives-second p fresh of present-condition fails f)
 
   module _ (of : kind ≡ 14) {c : Valued} (hc : Answers p (at + 1) cell fresh c) where

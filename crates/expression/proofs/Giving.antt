@@ -29,7 +29,7 @@ use Rattle.expression.proofs.Rows.{unary-typed, unary-operand, binary-t
 use Rattle.expression.proofs.Views.{opened, placed, Alone, own-cell, unary-types, binary-types}
 use Rattle.expression.proofs.Views.{unary-view, binary-view, conditional-view, present-view, reset-view, fby-view, pre-view}
 use Rattle.expression.proofs.Views.{constant-view, wire-view, input-view, last-view, last-kept}
-use Rattle.expression.proofs.Values.{operandValue, Ended, unary-value, binary-value, choose-value, reset-value, fby-value, finished}
+use Rattle.expression.proofs.Values.{operandValue, Ended, unary-value, binary-value, conditional-value, present-value, reset-value, fby-value, finished}
 
 -- the word that a condition takes stands for the datum that it takes
 choice-of-words : (t : ValueType) (b : Bool) (v w : ℕ) → cond b (datumOf t v) (datumOf t w) ≡ datumOf t (cond b v w)
@@ -103,7 +103,7 @@ module _ {sheet memory words : List ℕ} {bits level asked at cell : ℕ}
   conditional-gives of {c} {v = v} {u = u} f g h is =
       let w = conditional-view p of in
       finished p fresh (w .ends)
-      (choose-value p fresh w ∙ rw (f .value, g .value, h .value, is) (ap Known (choice-of-words (typeOfByte asked) (eqb c 1) v u)))
+      (conditional-value p fresh w ∙ rw (f .value, g .value, h .value, is) (ap Known (choice-of-words (typeOfByte asked) (eqb c 1) v u)))
       (h .next) (h .count)
 
   module _ (of : kind ≡ 13) {c n j : ℕ} (f : Gives (placed p (present-view p of .first)) fresh c n j) where
@@ -111,12 +111,12 @@ module _ {sheet memory words : List ℕ} {bits level asked at cell : ℕ}
         → {l k : ℕ} → Ended p (present-view p of .third) l k → Gives p fresh v l k
     present-gives-first holds g e =
         let w = present-view p of in
-        finished p fresh (w .ends) (choose-value p fresh w ∙ rw (f .value, holds) (g .value)) (e .next) (e .count)
+        finished p fresh (w .ends) (present-value p fresh w ∙ rw (f .value, holds) (g .value)) (e .next) (e .count)
 
     pub present-gives-second : (c ≡ 1 → ⊥) → {v l k : ℕ} → Gives (placed p (present-view p of .third)) fresh v l k → Gives p fresh v l k
     present-gives-second fails g =
         let w = present-view p of in
-        finished p fresh (w .ends) (choose-value p fresh w ∙ rw (f .value, ne-eqb c 1 fails) (g .value)) (g .next) (g .count)
+        finished p fresh (w .ends) (present-value p fresh w ∙ rw (f .value, ne-eqb c 1 fails) (g .value)) (g .next) (g .count)
 
   pub reset-gives : (of : kind ≡ 14) {c n j : ℕ} → Gives (placed p (reset-view p of .first)) fresh c n j
       → {v m i : ℕ} → Gives (placed p (reset-view p of .second)) (eqb c 1 || fresh) v m i → Gives p fresh v m i

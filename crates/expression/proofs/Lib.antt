@@ -3,4 +3,5 @@ pub mod Rows
 pub mod Views
 pub mod Values
 pub mod Giving
+pub mod Machines
 pub mod Answers

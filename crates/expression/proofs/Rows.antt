@@ -7,9 +7,9 @@ use lib.ListN.{length, getD, take}
 use Rattle.sheet.specs.Data.{ValueType, boolean, number, typeOfByte, typeOf, datumOf}
 use Rattle.sheet.specs.Expressions.{constant, unary, binary, pre}
 use Rattle.sheet.specs.Expressions.{CellForm, preCell, fbyCell}
-use Rattle.sheet.specs.Kinds.{Meaning, operand, bodyOf, cellsOf, countOf, operandsOf, foundOf, meaningOf}
+use Rattle.sheet.specs.Kinds.{Meaning, operand, bodyOf, cellsOf, countOf, ownForms, operandsOf, foundOf, meaningOf}
 use Rattle.sheet.specs.Typing.{unaryType, operandType, resultType}
-use Rattle.sheet.specs.Laws.Readings.{ownForms, kinds-between, _▸_, end}
+use Rattle.sheet.specs.Laws.Readings.{kinds-between, _▸_, end}
 use Rattle.kernel.specs.Operations.{unaryOf, binaryOf}
 
 -- the row of kind k, without the types

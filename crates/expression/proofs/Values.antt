@@ -1,23 +1,25 @@
 -- The value of a placement by the values of its operands, and what the code's steps make of them.
 use Prim.Native.Nat.{ℕ, _+_, _-_}
-use mathlib.Core.Path.{_≡_, refl, sym, ap, subst, _∙_}
+use mathlib.Core.Path.{_≡_, sym, ap, subst, _∙_}
 use mathlib.Core.Bool.{Bool, true, false, _||_, cond}
 use mathlib.Core.List.{List}
 use native.Mathlib.Numerals.{add-one}
 use Rattle.sheet.specs.Data.{ValueType, typeOfByte, datumOf}
-use Rattle.sheet.specs.Expressions.{Expression, Unary, Binary, Choice, unary, binary, choose, reset, fby}
+use Rattle.sheet.specs.Expressions.{Expression, Unary, Binary, unary, binary, conditional, presentOf, resetOf, machineOf, fby}
 use Rattle.sheet.specs.Laws.Lists.{never}
 use Rattle.sheet_walk.specs.Skips.{Readable}
 use Rattle.sheet.specs.declared.Cell.the-variants.{NotStarted}
 use Rattle.sheet_walk.specs.declared.skip.Skipped.{Skipped}
 use Rattle.kernel.specs.Values.{truth, whenKnown}
 use Rattle.kernel.specs.Operations.{unaryValue, binaryValue}
-use Rattle.kernel.specs.Instant.{value, cellAt, chosen, knownOr}
+use Rattle.kernel.specs.Instant.{value, cellAt, knownOr}
+use Rattle.kernel.specs.Laws.Switches.{currentState, stateRun, present-value as present-equation, reset-value as reset-equation}
+use Rattle.kernel.specs.Laws.Switches.{machine-value as machine-equation}
 use Rattle.kernel.specs.declared.Value.{Value}
 use Rattle.kernel.specs.declared.Value.the-variants.{Unknown, Known}
 use Rattle.leaves.specs.declared.Valued.{Valued}
 use Rattle.expression.specs.Places.{Placement, valueOfWord, wholeValue, Gives, Yields, unknown, known, YieldsAt}
-use Rattle.expression.proofs.Views.{Operand, placed, readable, operand-counted, Alone, One, Two, Three}
+use Rattle.expression.proofs.Views.{Operand, placed, readable, operand-counted, Alone, One, Two, Three, Four}
 
 module _ {sheet memory words : List ℕ} {bits level asked at cell : ℕ} {p : Placement sheet memory words bits level asked at cell}
     {fresh : Bool} {r : Valued} where
@@ -100,18 +102,42 @@ module _ {sheet memory words : List ℕ} {bits level asked at cell : ℕ}
   unfolding value
   binary-value v = ap (λ e. value (p .now) fresh e cell) (v .ends .tree) ∙ rw (operand-counted p (v .first))
 
-  pub choose-value : {o : Choice} {t u w a : ℕ} (v : Three p t u w a cell (choose o))
-      → wholeValue p fresh ≡ whenKnown (operandValue p fresh (v .first))
-      (λ t. chosen o (truth t) (operandValue p fresh (v .second)) (operandValue p fresh (v .third)))
+  pub conditional-value : {t u w a : ℕ} (v : Three p t u w a cell conditional)
+      → wholeValue p fresh ≡ whenKnown (operandValue p fresh (v .first)) (λ c.
+      whenKnown (operandValue p fresh (v .second)) (λ x.
+      whenKnown (operandValue p fresh (v .third)) (λ y. Known (cond (truth c) x y))))
   unfolding value
-  choose-value v =
+  conditional-value v =
       ap (λ e. value (p .now) fresh e cell) (v .ends .tree)
       ∙ rw (operand-counted p (v .second), operand-counted p (v .first))
 
-  pub reset-value : {t u a : ℕ} (v : Two p t u a cell reset)
-      → wholeValue p fresh ≡ whenKnown (operandValue p fresh (v .first)) (λ t. operandValue p (truth t || fresh) (v .second))
-  unfolding value
-  reset-value v = ap (λ e. value (p .now) fresh e cell) (v .ends .tree) ∙ rw (operand-counted p (v .first))
+  pub present-value : {t u w a : ℕ} (v : Three p t u w a cell presentOf)
+      → wholeValue p fresh ≡ whenKnown (operandValue p fresh (v .first))
+      (λ c. cond (truth c) (operandValue p fresh (v .second)) (operandValue p fresh (v .third)))
+  present-value v =
+      ap (λ e. value (p .now) fresh e cell) (v .ends .tree)
+      ∙ present-equation (p .now) fresh (v .first .tree) (v .second .tree) (v .third .tree) cell
+      ∙ rw (operand-counted p (v .second), operand-counted p (v .first))
+
+  pub reset-value : {t u a : ℕ} (v : Two p t u a cell resetOf)
+      → wholeValue p fresh ≡ whenKnown (operandValue p fresh (v .first)) (λ c. operandValue p (truth c || fresh) (v .second))
+  reset-value v =
+      ap (λ e. value (p .now) fresh e cell) (v .ends .tree)
+      ∙ reset-equation (p .now) fresh (v .first .tree) (v .second .tree) cell
+      ∙ rw (operand-counted p (v .first))
+
+  -- of a machine, by its state: the condition that is asked, and the body that runs
+  module _ {t u w x a : ℕ} (v : Four p t u w x a (cell + 1) machineOf) where
+    abbrev state : Bool
+    state = currentState (p .now) fresh cell
+
+    pub machine-value : wholeValue p fresh
+        ≡ whenKnown (cond state (operandValue p fresh (v .second)) (operandValue p fresh (v .first))) (λ c.
+        cond (stateRun state (truth c)) (operandValue p (truth c || fresh) (v .fourth)) (operandValue p (truth c || fresh) (v .third)))
+    machine-value =
+        ap (λ e. value (p .now) fresh e cell) (v .ends .tree)
+        ∙ machine-equation (p .now) fresh (v .first .tree) (v .second .tree) (v .third .tree) (v .fourth .tree) cell
+        ∙ rw (operand-counted p (v .third), operand-counted p (v .second), operand-counted p (v .first), add-one)
 
   pub fby-value : {y : ValueType} {t u a : ℕ} (v : Two p t u a (cell + 1) (fby y))
       → wholeValue p fresh ≡ knownOr (operandValue p fresh (v .first)) (cond fresh NotStarted (cellAt (p .now .memory) cell))

@@ -11,14 +11,14 @@ use lib.Seq.{take-all}
 use lib.Dec.{ltb}
 use borrow.Author.Tests.{ltb-true, ltb-false, not-false}
 use Rattle.sheet.specs.Data.{typeOfByte, plainByte, isKept, datumOf}
-use Rattle.sheet.specs.Expressions.{Expression, constant, wire, input, last, unary, binary, choose, reset, pre, fby, conditional, present}
-use Rattle.sheet.specs.Expressions.{CellForm, cellForms, cellCount}
-use Rattle.sheet.specs.Kinds.{bodyOf, cellsOf, countOf, operandsOf, meaningOf, kindCount}
+use Rattle.sheet.specs.Expressions.{Expression, constant, wire, input, last, unary, binary, conditional, pre, fby, presentOf, resetOf, machineOf}
+use Rattle.sheet.specs.Expressions.{CellForm, stateCell, cellForms, cellCount}
+use Rattle.sheet.specs.Kinds.{bodyOf, cellsOf, countOf, ownForms, operandsOf, meaningOf, kindCount}
 use Rattle.sheet.specs.Readings.{got, readEach, readExpression, bodyAt, Whole}
 use Rattle.sheet.specs.Sheets.{formsOf}
 use Rattle.sheet_walk.specs.Skips.{Readable}
 use Rattle.sheet.specs.Laws.Readings.{OwnGood, ExpressionRead, expression-view, no-level, run-view, expression-extent, run-extent, own-forms-length}
-use Rattle.sheet.specs.Laws.Readings.{forms-length, operands-counted, ownForms, forms-of-kind}
+use Rattle.sheet.specs.Laws.Readings.{forms-length, operands-counted, forms-of-kind}
 use Rattle.sheet.specs.Memory.{readCell}
 use Rattle.sheet.specs.declared.Cell.{Cell}
 use Rattle.kernel.specs.Instant.{cellAt}
@@ -40,12 +40,12 @@ pub first-stands : {memory : List ℕ} {cells : List Cell} {k : ℕ} {f : CellFo
     → CellStands memory k f (cellAt cells k)
 first-stands (more c s) = c
 
--- from 17 on a kind is 17 or 18
-pub below-last : {k : ℕ} → k < kindCount → (k ≡ 18 → ⊥) → k < 18
-below-last l other = omega arith
+-- from 17 on a kind is 17, 18 or 19
+pub only-fby : {k : ℕ} → 17 ≤ k → k < 18 → k ≡ 17
+only-fby low high = omega arith
 
-pub only-fby : {k : ℕ} → 17 ≤ k → k < kindCount → (k ≡ 18 → ⊥) → k ≡ 17
-only-fby low high other = omega arith
+pub only-machine : {k : ℕ} → 18 ≤ k → k < kindCount → (k ≡ 18 → ⊥) → k ≡ 19
+only-machine low high other = omega arith
 
 -- an expression that reads has a level for itself
 level-view : (inputs wires s : List ℕ) (level t at c : ℕ) {e : Expression} {n k : ℕ}
@@ -164,7 +164,7 @@ module _ {sheet memory words : List ℕ} {bits level asked at cell : ℕ}
   pub whole : Whole sheet at
   whole = record { kind = opened .good .kind; ends = opened .good .ends }
 
-  -- no operand, or one, two or three, from a place and a number of cells on; the tree is what f makes of theirs
+  -- no operand, or one, two, three or four, from a place and a number of cells on; the tree is what f makes of theirs
   pub record Alone (a k : ℕ) (e : Expression) : Type 0 where
     pub tree : p .tree ≡ e
     pub next : p .next ≡ a
@@ -185,6 +185,13 @@ module _ {sheet memory words : List ℕ} {bits level asked at cell : ℕ}
     pub third : Operand v (second .next) (second .count)
     pub ends : Alone (third .next) (third .count) (f (first .tree) (second .tree) (third .tree))
 
+  pub record Four (t u v w a k : ℕ) (f : Expression → Expression → Expression → Expression → Expression) : Type 0 where
+    pub first : Operand t a k
+    pub second : Operand u (first .next) (first .count)
+    pub third : Operand v (second .next) (second .count)
+    pub fourth : Operand w (third .next) (third .count)
+    pub ends : Alone (fourth .next) (fourth .count) (f (first .tree) (second .tree) (third .tree) (fourth .tree))
+
   -- the operands have these types and begin at this place and number of cells
   record Begins (ts : List ℕ) (a k : ℕ) : Type 0 where
     types : operandsOf kind asked ≡ ts
@@ -197,7 +204,7 @@ module _ {sheet memory words : List ℕ} {bits level asked at cell : ℕ}
   retold : {a k : ℕ} {e e′ : Expression} → Alone a k e → e ≡ e′ → Alone a k e′
   retold v means = record { tree = v .tree ∙ means; next = v .next; count = v .count }
 
-  -- a run of no operand, and of one, two or three
+  -- a run of no operand, and of one, two, three or four
   run-of-none : {a k : ℕ} {es : List Expression} (f : List Expression → Expression) → p .tree ≡ f es → Run [] a k es → Alone a k (f [])
   run-of-none {a} {k} f e r =
       let d = done a k r in
@@ -224,6 +231,14 @@ module _ {sheet memory words : List ℕ} {bits level asked at cell : ℕ}
       let rest = run-of-two (λ es. f (s .first .tree ∷ es)) (e ∙ ap f (s .trees)) (s .rest) in
       record { first = s .first; second = rest .first; third = rest .second; ends = rest .ends }
 
+  run-of-four : {t u v w a k : ℕ} {es : List Expression} (f : List Expression → Expression) → p .tree ≡ f es
+      → Run (t ∷ u ∷ v ∷ w ∷ []) a k es
+      → Four t u v w a k (λ x y z q. f (x ∷ y ∷ z ∷ q ∷ []))
+  run-of-four {t} {u} {v} {w} {a} {k} f e r =
+      let s = split t (u ∷ v ∷ w ∷ []) a k r in
+      let rest = run-of-three (λ es. f (s .first .tree ∷ es)) (e ∙ ap f (s .trees)) (s .rest) in
+      record { first = s .first; second = rest .first; third = rest .second; fourth = rest .third; ends = rest .ends }
+
   -- by the row of the kind: the types of its operands, where they begin, and what it builds of them
   alone : {a k : ℕ} {e : Expression} → Begins [] a k → built [] ≡ e → Alone a k e
   alone b means = retold (run-of-none built (opened .tree) (begun b)) means
@@ -248,6 +263,18 @@ module _ {sheet memory words : List ℕ} {bits level asked at cell : ℕ}
         second = w .second;
         third = w .third;
         ends = retold (w .ends) (means (w .first .tree) (w .second .tree) (w .third .tree));
+      }
+
+  four : {t u v w a k : ℕ} {f : Expression → Expression → Expression → Expression → Expression} → Begins (t ∷ u ∷ v ∷ w ∷ []) a k
+      → ((x y z q : Expression) → built (x ∷ y ∷ z ∷ q ∷ []) ≡ f x y z q) → Four t u v w a k f
+  four b means =
+      let w = run-of-four built (opened .tree) (begun b) in
+      record {
+        first = w .first;
+        second = w .second;
+        third = w .third;
+        fourth = w .fourth;
+        ends = retold (w .ends) (means (w .first .tree) (w .second .tree) (w .third .tree) (w .fourth .tree));
       }
 
   -- By the kind: where the operands stand, and the tree. The types of an operation's operands are those of the table, or those that
@@ -293,21 +320,25 @@ module _ {sheet memory words : List ℕ} {bits level asked at cell : ℕ}
       by true t = unary-view types e low (ltb-true _ _ t) .first
       by false t = binary-view types e (ltb-false _ _ t) high .first
 
-  pub conditional-view : kind ≡ 12 → Three 0 asked asked (at + 1) cell (choose conditional)
+  pub conditional-view : kind ≡ 12 → Three 0 asked asked (at + 1) cell conditional
   unfolding meaningOf operandsOf
   conditional-view is = three (record { types = rw is; place = rw is (omega arith); cells = rw is (omega arith) }) (λ x y z. rw is)
 
-  pub present-view : kind ≡ 13 → Three 0 asked asked (at + 1) cell (choose present)
+  pub present-view : kind ≡ 13 → Three 0 asked asked (at + 1) cell presentOf
   unfolding meaningOf operandsOf
   present-view is = three (record { types = rw is; place = rw is (omega arith); cells = rw is (omega arith) }) (λ x y z. rw is)
 
-  pub reset-view : kind ≡ 14 → Two 0 asked (at + 1) cell reset
+  pub reset-view : kind ≡ 14 → Two 0 asked (at + 1) cell resetOf
   unfolding meaningOf operandsOf
   reset-view is = two (record { types = rw is; place = rw is (omega arith); cells = rw is (omega arith) }) (λ x y. rw is)
 
   pub fby-view : kind ≡ 17 → Two asked asked (at + 1) (cell + 1) (fby (typeOfByte asked))
   unfolding meaningOf operandsOf
   fby-view is = two (record { types = rw is; place = rw is (omega arith); cells = rw is (omega arith) }) (λ x y. rw is)
+
+  pub machine-view : kind ≡ 19 → Four 0 0 asked asked (at + 1) (cell + 1) machineOf
+  unfolding meaningOf operandsOf
+  machine-view is = four (record { types = rw is; place = rw is (omega arith); cells = rw is (omega arith) }) (λ x y z q. rw is)
 
   pub pre-view : 15 ≤ kind → kind < 17 → One asked (at + 1 + bodyOf kind) (cell + 1) (pre (datumOf (typeOfByte asked) (bodyAt sheet at)))
   pre-view low high =
@@ -384,6 +415,13 @@ module _ {sheet memory words : List ℕ} {bits level asked at cell : ℕ}
       let r = cell-row (typeOfByte asked) (bodyAt sheet at) kind low high in
       let stands = first-stands (rw (r .owns) at (opened .own)) in
       record { form = r .form; stands = stands; reads = rw (r .typed) at (stands .reads) }
+
+  -- the cell that a machine owns, which holds a Boolean whatever is asked
+  pub record StateCell : Type 0 where
+    pub stands : CellStands memory cell stateCell (cellAt (p .now .memory) cell)
+
+  pub state-cell : kind ≡ 19 → StateCell
+  state-cell is = record { stands = first-stands (rw is at (opened .own)) }
 
   pub operand-counted : {t a k : ℕ} (o : Operand t a k) → o .count ≡ k + cellCount (o .tree)
   operand-counted {t} {a} {k} o = expression-extent (p .inputs) (p .wires) sheet (level - 1) t a k (o .reads) .counted

@@ -268,8 +268,60 @@ fn value_pre(
     }
 }
 
-// The value that a cell holds: by kind 18 that of the kept wire which it names; by an fby, kind 17, its own where it sees it started, and
-// else its left operand's. The two are one function, since one more step in `value_by_kind` would keep the fby from being folded into it.
+// The value of a machine, kind 19: the condition of the current state is asked, and by it a body runs, which is fresh where its state is
+// entered; the other two operands are passed over.
+fn value_machine(
+    sheet: &[u8],
+    memory: &&[u8],
+    known: Wires,
+    words: &[u32; 144],
+    level: usize,
+    at: usize,
+    cell: usize,
+    fresh: bool,
+) -> Valued
+    requires { ⌜ Placed (now sheet) (now (now memory)) (now words) (known .bits) level at cell ⌝ }
+    requires { ⌜ getD (now sheet) at 0 ≡ 19 ⌝ }
+    ensures { λ r. ⌜ YieldsAt (now (sheet .entry)) (now (now (memory .entry))) (now (words .entry)) (known .bits) level at cell fresh r ⌝ }
+{
+    let below = level - 1;
+    let first = at + 1;
+    let inner = cell + 1;
+    let state = cells::is_second_state(*memory, cell, fresh);
+    let asked = skip::skip_if(state, sheet, first, inner);
+    let condition = value_expression(
+        sheet,
+        memory,
+        known,
+        words,
+        below,
+        asked.next,
+        asked.cell,
+        fresh,
+    );
+    if !condition.known {
+        return unknown();
+    }
+    let bodies = skip::skip_if(!state, sheet, condition.next, condition.cell);
+    let holds = condition.word == 1;
+    let second = state != holds;
+    let run = skip::skip_if(second, sheet, bodies.next, bodies.cell);
+    let anew = holds | fresh;
+    let body = value_by_kind(sheet, memory, known, words, below, run.next, run.cell, anew);
+    if !body.known {
+        return unknown();
+    }
+    let end = skip::skip_if(!second, sheet, body.next, body.cell);
+    Valued {
+        next: end.next,
+        word: body.word,
+        cell: end.cell,
+        known: true,
+    }
+}
+
+// The value of an fby, kind 17: its cell's where it sees it started, and else its left operand's. Kind 18, which gives the cell of the kept wire that
+// it names, and a machine are told from it by one test here, since one more step in `value_by_kind` would keep the fby from being folded into it.
 fn value_held(
     sheet: &[u8],
     memory: &&[u8],
@@ -284,8 +336,11 @@ fn value_held(
     requires { ⌜ 17 ≤ getD (now sheet) at 0 ⌝ }
     ensures { λ r. ⌜ YieldsAt (now (sheet .entry)) (now (now (memory .entry))) (now (words .entry)) (known .bits) level at cell fresh r ⌝ }
 {
-    if sheet[at] == kinds::LAST {
-        return lasts::value_last(sheet, words, at, cell);
+    if kinds::LAST <= sheet[at] {
+        if sheet[at] == kinds::LAST {
+            return lasts::value_last(sheet, words, at, cell);
+        }
+        return value_machine(sheet, memory, known, words, level, at, cell, fresh);
     }
     let below = level - 1;
     let first = at + 1;

@@ -1,24 +1,40 @@
 -- Document 01's cases A to L, and those of document 02 about the instants, as one table: the sheet's bytes, the input rows of one
 -- instant after the other, what each instant gives, lists with what the scheduled instant answers, and the greatest depth. One test
--- runs a row through the outcomes of the calls.
+-- runs a row through the outcomes of the calls, and it holds of every row.
 use Prim.Native.Nat.{ℕ, _+_, _*_}
+use mathlib.Core.Path.{_≡_, refl}
 use mathlib.Core.Bool.{Bool, true, false, _&&_, _||_, cond}
 use mathlib.Core.List.{List, [], _∷_, _++_, map}
 use lib.Dec.{eqb}
 use lib.IntN.{ℤ, pos, negℤ}
 use lib.ListN.{length, replicate}
+use Rattle.numbers.specs.Numbers.{settled, equals}
 use Rattle.sheet.specs.Examples.{quarterBytes}
-use Rattle.sheet.specs.Outcomes.{Outcome, refusal, result}
-use Rattle.sheet.specs.Sheets.{Sheet, checkOf, sheetOf}
-use Rattle.sheet.specs.Memory.{memoryBytes, startCall, packedStarted}
-use Rattle.sheet.specs.Rows.{rowBytes}
+use Rattle.sheet.specs.Outcomes.{Outcome, refusal, result, lowest}
+use Rattle.sheet.specs.Sheets.{Sheet, checkOf, sheetOf, formsOf, keptCount, readWires, outputsFrom, wiresFrom, readSheet}
+use Rattle.sheet.specs.Memory.{memoryBytes, startCall, packedStarted, invalidAt, cellsFrom, memoryOf, startMemory, startOutcome}
+use Rattle.sheet.specs.Rows.{rowBytes, wrongAt, dataFrom, inputsOf}
+use Rattle.sheet.specs.Expressions.{cellForms, cellCount}
+use Rattle.sheet.specs.Kinds.{meaningOf, operandsOf}
+use Rattle.sheet.specs.Readings.{readEach, namesOf, bodyFrom, ownOf, readExpression}
+use Rattle.sheet.specs.Headers.{fieldOf, bytesOf, sectionOf}
+use Rattle.sheet.specs.Lists.{among, allAmong}
+use Rattle.sheet.specs.Reads.{wiresRead}
 use Rattle.sheet.specs.declared.Datum.the-variants.{Boolean, Number}
 use Rattle.sheet.specs.declared.Cell.{Cell}
 use Rattle.sheet.specs.declared.Cell.the-variants.{NotStarted, Started}
 use Rattle.sheet.specs.declared.Checked.{Checked}
 use Rattle.sheet.specs.declared.Checked.the-variants.{Refused, Passed}
-use Rattle.kernel.specs.Depths.{greatestDepth}
+use Rattle.closure.specs.Closures.{through, lowestLoop}
+use Rattle.kernel.specs.Depths.{greatestDepth, deepest, depthWithin, depthOf, wiresBelow}
 use Rattle.kernel.specs.Calls.{InstantCall, roundsCall, scheduledCall, packedRounds, packedScheduled}
+use Rattle.kernel.specs.Calls.{givenOf, anyUnknown, placeOfLoop, acceptedOf, inRounds, scheduled}
+use Rattle.kernel.specs.Equality.{sameDatum, sameValue, sameValues}
+use Rattle.kernel.specs.Instant.{value, resting, stored}
+use Rattle.kernel.specs.Waits.{wiresAwaited, waitsFor, lowestWaiting}
+use Rattle.kernel.specs.Instants.{readsAt, valueOfWire, values, storedCells, lastsFrom, round, rounds, finished, nextMemory, outputRow}
+use Rattle.kernel.specs.Schedules.{notNew, tooEarly, scheduleOf, passFrom, pass}
+use Rattle.kernel.specs.Systems as System
 use Rattle.kernel.specs.declared.InRounds.{InRounds}
 
 -- what an instant in rounds gives: the rounds and the outputs, or a refusal's number and place
@@ -139,15 +155,25 @@ independent sheet steps = record { sheet = sheet; steps = steps; lists = along (
 abbrev keptNumber : (inputTypes expression : List ℕ) → List ℕ
 keptNumber inputTypes expression = length inputTypes ∷ (inputTypes ++ (1 ∷ 3 ∷ 1 ∷ 0 ∷ expression))
 
--- refused 20 at the place, without inputs
-abbrev loops : ℕ → List Step
-loops place = step [] (refuses 20 place) ∷ []
-
 abbrev zero-number : List ℕ
 zero-number = 1 ∷ 0 ∷ 0 ∷ 0 ∷ 0 ∷ []
 
 abbrev one-number : List ℕ
 one-number = 1 ∷ 1 ∷ 0 ∷ 0 ∷ 0 ∷ []
+
+-- one wire, a machine with these leave-conditions and bodies, by which the wire counts up from 0 in state 0 and down in state 1
+abbrev counting : (leave-0 leave-1 : List ℕ) → List ℕ
+counting leave-0 leave-1 =
+    19 ∷ (leave-0 ++ leave-1
+    ++ (8 ∷ 16 ∷ 0 ∷ 0 ∷ 0 ∷ 0 ∷ 2 ∷ 0 ∷ one-number) ++ (9 ∷ 16 ∷ 0 ∷ 0 ∷ 0 ∷ 0 ∷ 2 ∷ 0 ∷ one-number))
+
+-- two states that show themselves by 10 and by 20, left by the conditions
+abbrev ten-or-twenty : (leave : List ℕ) → List ℕ
+ten-or-twenty leave = 19 ∷ (leave ++ leave ++ (1 ∷ 10 ∷ 0 ∷ 0 ∷ 0 ∷ 1 ∷ 20 ∷ 0 ∷ 0 ∷ 0 ∷ []))
+
+-- refused 20 at the place, without inputs
+abbrev loops : ℕ → List Step
+loops place = step [] (refuses 20 place) ∷ []
 
 -- 2147483647 and -2147483648
 abbrev greatest-number : List ℕ
@@ -159,6 +185,10 @@ least-number = 1 ∷ 0 ∷ 0 ∷ 0 ∷ 128 ∷ []
 -- no inputs, one output
 abbrev gives : ℤ → Step
 gives z = step [] (accepts 2 (z ∷ []))
+
+-- natural inputs, one output
+abbrev counts : List ℕ → ℤ → Step
+counts inputs z = step (naturals inputs) (accepts 2 (z ∷ []))
 
 -- 10 fby 20
 abbrev ten-then-twenty : List ℕ
@@ -292,7 +322,8 @@ table =
     (2 ∷ 0 ∷ 0 ∷ 2 ∷ 2 ∷ 1 ∷ 2 ∷ 0 ∷ 1
     ∷ 14 ∷ 3 ∷ 1 ∷ 7 ∷ 18 ∷ 0 ∷ 3 ∷ 0
     ∷ 14 ∷ 3 ∷ 1 ∷ 8 ∷ 16 ∷ 0 ∷ 0 ∷ 0 ∷ 0 ∷ 2 ∷ 1 ∷ one-number)
-    (on (0 ∷ 0 ∷ []) (0 ∷ 1 ∷ []) ∷ on (1 ∷ 0 ∷ []) (1 ∷ 2 ∷ []) ∷ on (0 ∷ 1 ∷ []) (1 ∷ 1 ∷ []) ∷ on (0 ∷ 0 ∷ []) (1 ∷ 2 ∷ []) ∷ [])
+    (on (0 ∷ 0 ∷ []) (0 ∷ 1 ∷ []) ∷ on (1 ∷ 0 ∷ []) (1 ∷ 2 ∷ [])
+    ∷ on (0 ∷ 1 ∷ []) (1 ∷ 1 ∷ []) ∷ on (0 ∷ 0 ∷ []) (1 ∷ 2 ∷ []) ∷ [])
     -- K7: a kept number, which an earlier wire gives one instant late; it reads no wire within the instant
     ∷ independent (0 ∷ 2 ∷ 1 ∷ 3 ∷ 2 ∷ 0 ∷ 1 ∷ 18 ∷ 1 ∷ 8 ∷ 18 ∷ 1 ∷ one-number)
     (on [] (0 ∷ 1 ∷ []) ∷ on [] (1 ∷ 2 ∷ []) ∷ on [] (2 ∷ 3 ∷ []) ∷ [])
@@ -307,9 +338,64 @@ table =
     (on (0 ∷ []) (1 ∷ []) ∷ on (1 ∷ []) (2 ∷ []) ∷ on (1 ∷ []) (3 ∷ []) ∷ [])
     -- K7 and K5: kind 18 waits for nothing, though the wire that it names waits for itself
     ∷ unscheduled (pair [] 3 (18 ∷ 1 ∷ []) (2 ∷ 1 ∷ [])) (loops 1)
+    -- K8: a debounced relay, open in state 0 and closed in state 1, that two equal contacts in a row switch; in the seventh instant the first
+    -- condition still has the contact of the fourth, since it rested
+    ∷ alone (single (0 ∷ [])
+    (19 ∷ 6 ∷ 3 ∷ 0 ∷ 15 ∷ 0 ∷ 3 ∷ 0 ∷ 6 ∷ 4 ∷ 3 ∷ 0 ∷ 4 ∷ 15 ∷ 1 ∷ 3 ∷ 0 ∷ (zero-number ++ one-number)))
+    (on (1 ∷ []) (0 ∷ []) ∷ on (0 ∷ []) (0 ∷ []) ∷ on (1 ∷ []) (0 ∷ []) ∷ on (1 ∷ []) (1 ∷ [])
+    ∷ on (0 ∷ []) (1 ∷ []) ∷ on (0 ∷ []) (0 ∷ []) ∷ on (1 ∷ []) (1 ∷ []) ∷ [])
+    -- K8: each body counts from its start at every entry, and goes on where its state stays; the last two enter and leave
+    ∷ alone (single (0 ∷ []) (counting (3 ∷ 0 ∷ []) (3 ∷ 0 ∷ [])))
+    (counts (0 ∷ []) (pos 1) ∷ counts (0 ∷ []) (pos 2) ∷ counts (1 ∷ []) (minus 1) ∷ counts (0 ∷ []) (minus 2)
+    ∷ counts (1 ∷ []) (pos 1) ∷ counts (0 ∷ []) (pos 2) ∷ counts (1 ∷ []) (minus 1) ∷ counts (1 ∷ []) (pos 1) ∷ [])
+    -- K8: under a reset that fires in state 1, and in an instant that leaves state 0
+    ∷ alone (single (0 ∷ 0 ∷ []) (14 ∷ 3 ∷ 1 ∷ counting (3 ∷ 0 ∷ []) (0 ∷ 0 ∷ [])))
+    (counts (0 ∷ 0 ∷ []) (pos 1) ∷ counts (1 ∷ 0 ∷ []) (minus 1) ∷ counts (0 ∷ 0 ∷ []) (minus 2) ∷ counts (0 ∷ 1 ∷ []) (pos 1)
+    ∷ counts (0 ∷ 0 ∷ []) (pos 2) ∷ counts (1 ∷ 1 ∷ []) (minus 1) ∷ counts (0 ∷ 0 ∷ []) (minus 2) ∷ [])
+    -- K8: a machine in the first body of a machine; it is fresh where that is entered
+    ∷ alone (single (0 ∷ 0 ∷ []) (19 ∷ 3 ∷ 0 ∷ 3 ∷ 0 ∷ (ten-or-twenty (3 ∷ 1 ∷ []) ++ (1 ∷ 30 ∷ 0 ∷ 0 ∷ 0 ∷ []))))
+    (on (0 ∷ 0 ∷ []) (10 ∷ []) ∷ on (0 ∷ 1 ∷ []) (20 ∷ []) ∷ on (0 ∷ 0 ∷ []) (20 ∷ []) ∷ on (1 ∷ 0 ∷ []) (30 ∷ [])
+    ∷ on (1 ∷ 0 ∷ []) (10 ∷ []) ∷ on (1 ∷ 1 ∷ []) (30 ∷ []) ∷ on (1 ∷ 1 ∷ []) (20 ∷ []) ∷ [])
+    -- K8: a machine in an arm that is not always chosen
+    ∷ alone (single (0 ∷ 0 ∷ []) (13 ∷ 3 ∷ 0 ∷ (ten-or-twenty (3 ∷ 1 ∷ []) ++ zero-number)))
+    (on (1 ∷ 1 ∷ []) (20 ∷ []) ∷ on (0 ∷ 1 ∷ []) (0 ∷ []) ∷ on (1 ∷ 0 ∷ []) (20 ∷ []) ∷ on (0 ∷ 1 ∷ []) (0 ∷ [])
+    ∷ on (1 ∷ 1 ∷ []) (10 ∷ []) ∷ [])
+    -- K8: two machines in step, each of which names the other's wire in one state: accepted in rounds, and no list passes
+    ∷ record {
+      sheet = pair (0 ∷ []) 1
+          (19 ∷ 3 ∷ 0 ∷ 3 ∷ 0 ∷ 1 ∷ 5 ∷ 0 ∷ 0 ∷ 0 ∷ 2 ∷ 1 ∷ [])
+          (19 ∷ 3 ∷ 0 ∷ 3 ∷ 0 ∷ 2 ∷ 0 ∷ 1 ∷ 7 ∷ 0 ∷ 0 ∷ 0 ∷ []);
+      steps =
+          step (naturals (0 ∷ [])) (accepts 3 (naturals (5 ∷ [])))
+          ∷ step (naturals (1 ∷ [])) (accepts 3 (naturals (7 ∷ [])))
+          ∷ step (naturals (0 ∷ [])) (accepts 3 (naturals (7 ∷ [])))
+          ∷ step (naturals (1 ∷ [])) (accepts 3 (naturals (5 ∷ [])))
+          ∷ [];
+      lists = along (0 ∷ 1 ∷ []) (19 * 65536) ∷ along (1 ∷ 0 ∷ []) (19 * 65536) ∷ [];
+      depth = 0;
+    }
+    -- K8 and K5: a condition that is not asked and a body that rests are not waited for; an unknown condition is, and nothing else; once it is
+    -- known, the body that runs
+    ∷ looping (single [] (19 ∷ 0 ∷ 0 ∷ 10 ∷ 2 ∷ 0 ∷ (zero-number ++ one-number ++ (2 ∷ 0 ∷ [])))) (on [] (1 ∷ []) ∷ [])
+    ∷ unscheduled (pair [] 0 (19 ∷ 2 ∷ 1 ∷ 0 ∷ 0 ∷ 2 ∷ 0 ∷ 2 ∷ 0 ∷ []) (2 ∷ 1 ∷ [])) (loops 1)
+    ∷ unscheduled (pair [] 1 (19 ∷ 0 ∷ 0 ∷ 0 ∷ 0 ∷ 2 ∷ 1 ∷ 2 ∷ 0 ∷ []) (2 ∷ 1 ∷ [])) (loops 1)
+    ∷ unscheduled (pair [] 1 (19 ∷ 0 ∷ 1 ∷ 0 ∷ 0 ∷ 2 ∷ 1 ∷ 2 ∷ 0 ∷ []) (2 ∷ 1 ∷ [])) (loops 0)
     ∷ []
 
--- K7: the cells that the instants with these input rows leave, from the start on.
+-- the table holds: computed from the definitions, so that a wrong one is refused here
+pub table-holds : all holds table ≡ true
+unfolding settled equals cellForms cellCount meaningOf operandsOf lowest
+    readEach namesOf bodyFrom ownOf readExpression fieldOf bytesOf sectionOf formsOf keptCount readWires outputsFrom wiresFrom readSheet
+    sheetOf memoryBytes invalidAt cellsFrom memoryOf startMemory startOutcome startCall rowBytes wrongAt dataFrom inputsOf
+    sameDatum sameValue sameValues among allAmong wiresRead value resting stored
+    System.after System.unchanged System.rounds System.finished
+    readsAt valueOfWire values storedCells lastsFrom round rounds finished nextMemory outputRow
+    through lowestLoop wiresAwaited waitsFor lowestWaiting
+    notNew tooEarly scheduleOf passFrom pass givenOf anyUnknown placeOfLoop acceptedOf inRounds scheduled roundsCall scheduledCall
+    deepest depthWithin depthOf wiresBelow greatestDepth sameBytes all agrees holdsFrom holds table
+table-holds = refl
+
+-- K7 and K8: the cells that the instants with these input rows leave, from the start on.
 pub record Left : Type 0 where
   pub sheet : List ℕ
   pub rows : List (List ℤ)
@@ -335,6 +421,19 @@ between rows cells = record {
   cells = cells;
 }
 
+-- a machine under a reset, with memory in each of its operands: its state, what each condition has of the input of the instant before, true at
+-- first, and two counts
+abbrev remembering : List (List ℤ) → (state leave-0 leave-1 : Bool) → (up down : ℤ) → Left
+remembering rows state leave-0 leave-1 up down = record {
+  sheet = single (0 ∷ 0 ∷ []) (14 ∷ 3 ∷ 1 ∷ counting (15 ∷ 1 ∷ 3 ∷ 0 ∷ []) (15 ∷ 1 ∷ 3 ∷ 0 ∷ []));
+  rows = rows;
+  cells = Started (Boolean state) ∷ Started (Boolean leave-0) ∷ Started (Boolean leave-1) ∷ Started (Number up) ∷ Started (Number down) ∷ [];
+}
+
+-- the first instants leave state 0 at once, and then state 1 at once
+abbrev left-twice : List (List ℤ)
+left-twice = naturals (0 ∷ 0 ∷ []) ∷ naturals (0 ∷ 0 ∷ []) ∷ []
+
 unfoldable pub cellTable : List Left
 cellTable =
     between []
@@ -343,4 +442,23 @@ cellTable =
     (Started (Number (pos 1)) ∷ Started (Boolean true) ∷ Started (Boolean false) ∷ Started (Number (pos 4)) ∷ [])
     ∷ between (naturals (0 ∷ []) ∷ naturals (1 ∷ []) ∷ [])
     (Started (Number (pos 1)) ∷ Started (Boolean false) ∷ Started (Boolean true) ∷ Started (Number (pos 4)) ∷ [])
+    -- K8: the start; state 1 is entered in the first instant, and the operands that do not run keep their memory; then state 0 is
+    ∷ remembering [] false true true (pos 0) (pos 0)
+    ∷ remembering (naturals (0 ∷ 0 ∷ []) ∷ []) true false true (pos 0) (minus 1)
+    ∷ remembering left-twice false false false (pos 1) (minus 1)
+    -- K8: state 0 stays, and its body goes on
+    ∷ remembering (left-twice ++ (naturals (1 ∷ 0 ∷ []) ∷ [])) false true false (pos 2) (minus 1)
+    -- K8: the reset fires: state 0 is left from the start, and what does not run gets its starting memory, state 0's body too
+    ∷ remembering (left-twice ++ (naturals (0 ∷ 1 ∷ []) ∷ [])) true false true (pos 0) (minus 1)
     ∷ []
+
+-- and so are these the cells
+pub cells-left : all leaves cellTable ≡ true
+unfolding settled cellForms cellCount meaningOf operandsOf lowest
+    readEach namesOf bodyFrom ownOf readExpression fieldOf bytesOf sectionOf formsOf keptCount readWires outputsFrom wiresFrom readSheet
+    sheetOf memoryBytes invalidAt cellsFrom memoryOf startMemory startOutcome startCall rowBytes wrongAt dataFrom inputsOf
+    sameDatum sameValue sameValues wiresRead value resting stored
+    System.after System.unchanged System.rounds System.finished
+    values storedCells lastsFrom round rounds finished nextMemory outputRow givenOf anyUnknown acceptedOf inRounds roundsCall
+    sameBytes all memoryAfter leaves cellTable
+cells-left = refl

@@ -1,11 +1,13 @@
 -- One instant of an expression: its value, and what it stores. An expression's cells are those of the memory from number k on.
--- Fresh, as document 01 has it, is a place under a reset that fires now: it acts from its starting cells.
+-- Fresh, as documents 01 and 02 have it, is a place under a reset that fires now, or in a body that a machine enters now: it acts from its
+-- starting cells.
 use Prim.Native.Nat.{ℕ, suc, _+_}
-use mathlib.Core.Bool.{Bool, true, false, _||_, Bool·beq, cond}
+use mathlib.Core.Bool.{Bool, false, not, _||_, cond}
 use mathlib.Core.List.{List, [], _∷_, _++_}
-use lib.ListN.{take, drop, getD}
-use Rattle.sheet.specs.Expressions.{Expression, constant, wire, input, last, unary, binary, choose, reset, pre, fby, kept}
-use Rattle.sheet.specs.Expressions.{Choice, conditional, present, cellForms, cellCount}
+use lib.ListN.{length, take, drop, getD}
+use Rattle.sheet.specs.Expressions.{Expression, constant, wire, input, last, unary, binary, conditional, switch, pre, fby, kept}
+use Rattle.sheet.specs.Expressions.{Alternatives, only, either, Switch, present, reset, machine}
+use Rattle.sheet.specs.Expressions.{switchForms, cellForms, cellCount, countIn}
 use Rattle.sheet.specs.Memory.{startMemory}
 use Rattle.sheet.specs.declared.Datum.{Datum}
 use Rattle.sheet.specs.declared.Datum.the-variants.{Boolean}
@@ -37,15 +39,26 @@ abbrev pub knownOr : Value → Cell → Value
 knownOr v NotStarted = v
 knownOr v (Started e) = Known e
 
--- what a choice makes of its arms
-abbrev pub chosen : Choice → Bool → Value → Value → Value
-chosen conditional t v w = whenKnown v (λ x. whenKnown w (λ y. Known (cond t x y)))
-chosen present t v w = cond t v w
+-- Which operands of a switch run, and which are fresh. Of two conditions the one of the current state is asked, under the freshness of the
+-- whole. By whether it holds one body runs: a present takes its first arm where the condition holds, and a machine then enters the
+-- other state. Here whether the second of two bodies runs, which is that of state 1:
+abbrev pub secondRuns : Switch → (state holds : Bool) → Bool
+secondRuns present state holds = not holds
+secondRuns reset state holds = false
+secondRuns machine state holds = cond holds (not state) state
 
--- whether an arm runs, named by the condition that takes it: in a conditional each does, in a present the one that is taken
-abbrev pub runs : Choice → Bool → Bool → Bool
-runs conditional t arm = true
-runs present t arm = Bool·beq t arm
+-- ... and whether the body that runs is fresh even where the whole is not: the operand of a reset that fires, the body of a state that is
+-- entered
+abbrev pub makesFresh : Switch → (holds : Bool) → Bool
+makesFresh present holds = false
+makesFresh reset holds = holds
+makesFresh machine holds = holds
+
+-- a machine stores the state whose body ran
+abbrev pub switchCells : Switch → (second : Bool) → List Cell
+switchCells present second = []
+switchCells reset second = []
+switchCells machine second = Started (Boolean second) ∷ []
 
 -- What an expression is worked out under. Kind 18 names a wire, whose cell may belong to a wire that comes later: `lasts` has what the
 -- kept wires' cells hold, a datum for each wire.
@@ -56,44 +69,75 @@ pub record Environment : Type 0 where
   pub wires : List Value
 
 module _ (now : Environment) where
-  unfoldable pub value : Bool → Expression → ℕ → Value
-  value fresh (constant d) k = Known d
-  value fresh (wire w) k = valueAt (now .wires) w
-  value fresh (input i) k = Known (inputAt (now .inputs) i)
-  value fresh (last w) k = Known (lastAt (now .lasts) w)
-  value fresh (unary o a) k = whenKnown (value fresh a k) (λ x. Known (applyUnary o x))
-  value fresh (binary o a b) k =
-      whenKnown (value fresh a k) (λ x. whenKnown (value fresh b (k + cellCount a)) (λ y. Known (applyBinary o x y)))
-  value fresh (choose o c a b) k =
-      whenKnown (value fresh c k) (λ t.
-      chosen o (truth t) (value fresh a (k + cellCount c)) (value fresh b (k + cellCount c + cellCount a)))
-  value fresh (reset c a) k = whenKnown (value fresh c k) (λ t. value (truth t || fresh) a (k + cellCount c))
-  value fresh (pre d a) k = Known (heldOr d (cond fresh (Started d) (cellAt (now .memory) k)))
-  value fresh (fby t a b) k = knownOr (value fresh a (suc k)) (cond fresh NotStarted (cellAt (now .memory) k))
-  value fresh (kept t a) k = value fresh a (suc k)
+  -- what a cell holds that starts with d
+  abbrev pub held : Bool → Datum → ℕ → Datum
+  held fresh d k = heldOr d (cond fresh (Started d) (cellAt (now .memory) k))
 
-  -- the cells of an expression that does not advance: as they were, or the starting ones where fresh
+  -- the current state, which a machine's cell has: state 0 where fresh; a present and a reset have one condition, which they ask always
+  abbrev pub stateOf : Bool → Switch → ℕ → Bool
+  stateOf fresh present k = false
+  stateOf fresh reset k = false
+  stateOf fresh machine k = truth (held fresh (Boolean false) k)
+
+  unfoldable mutual
+    pub value : Bool → Expression → ℕ → Value
+    value fresh (constant d) k = Known d
+    value fresh (wire w) k = valueAt (now .wires) w
+    value fresh (input i) k = Known (inputAt (now .inputs) i)
+    value fresh (last w) k = Known (lastAt (now .lasts) w)
+    value fresh (unary o a) k = whenKnown (value fresh a k) (λ x. Known (applyUnary o x))
+    value fresh (binary o a b) k =
+        whenKnown (value fresh a k) (λ x. whenKnown (value fresh b (k + cellCount a)) (λ y. Known (applyBinary o x y)))
+    value fresh (conditional c a b) k =
+        whenKnown (value fresh c k) (λ t.
+        whenKnown (value fresh a (k + cellCount c)) (λ x.
+        whenKnown (value fresh b (k + cellCount c + cellCount a)) (λ y. Known (cond (truth t) x y))))
+    -- unknown where the condition that is asked is, else the value of the body that runs
+    value fresh (switch o cs bs) k =
+        let state = stateOf fresh o k in
+        let first = k + length (switchForms o) in
+        whenKnown (valueIn state fresh cs first) (λ t.
+        valueIn (secondRuns o state (truth t)) (makesFresh o (truth t) || fresh) bs (first + countIn cs))
+    value fresh (pre d a) k = Known (held fresh d k)
+    value fresh (fby t a b) k = knownOr (value fresh a (suc k)) (cond fresh NotStarted (cellAt (now .memory) k))
+    value fresh (kept t a) k = value fresh a (suc k)
+
+    -- of the one that is asked or runs
+    pub valueIn : (second : Bool) → Bool → Alternatives → ℕ → Value
+    valueIn second fresh (only a) k = value fresh a k
+    valueIn second fresh (either a b) k = cond second (value fresh b (k + cellCount a)) (value fresh a k)
+
+  -- the cells of an expression that does not advance: as they were, or the starting ones where the whole is fresh
   unfoldable pub resting : Bool → Expression → ℕ → List Cell
-  resting fresh e k = cond fresh (startMemory (cellForms e)) (take (cellCount e) (drop k (now .memory)))
+  resting whole e k = cond whole (startMemory (cellForms e)) (take (cellCount e) (drop k (now .memory)))
 
   -- to advance is to store one's cells
-  unfoldable pub stored : Bool → Expression → ℕ → List Cell
-  stored fresh (constant d) k = []
-  stored fresh (wire w) k = []
-  stored fresh (input i) k = []
-  stored fresh (last w) k = []
-  stored fresh (unary o a) k = stored fresh a k
-  stored fresh (binary o a b) k = stored fresh a k ++ stored fresh b (k + cellCount a)
-  stored fresh (choose o c a b) k =
-      let t = isTrue (value fresh c k) in
-      let first = k + cellCount c in
-      let second = k + cellCount c + cellCount a in
-      stored fresh c k
-      ++ (cond (runs o t true) (stored fresh a first) (resting fresh a first)
-      ++ cond (runs o t false) (stored fresh b second) (resting fresh b second))
-  stored fresh (reset c a) k = stored fresh c k ++ stored (isTrue (value fresh c k) || fresh) a (k + cellCount c)
-  stored fresh (pre d a) k = Started (datumIn (value fresh a (suc k))) ∷ stored fresh a (suc k)
-  stored fresh (fby t a b) k =
-      Started (datumIn (value fresh b (suc k + cellCount a)))
-      ∷ (stored fresh a (suc k) ++ stored fresh b (suc k + cellCount a))
-  stored fresh (kept t a) k = Started (datumIn (value fresh a (suc k))) ∷ stored fresh a (suc k)
+  unfoldable mutual
+    pub stored : Bool → Expression → ℕ → List Cell
+    stored fresh (constant d) k = []
+    stored fresh (wire w) k = []
+    stored fresh (input i) k = []
+    stored fresh (last w) k = []
+    stored fresh (unary o a) k = stored fresh a k
+    stored fresh (binary o a b) k = stored fresh a k ++ stored fresh b (k + cellCount a)
+    stored fresh (conditional c a b) k =
+        stored fresh c k ++ (stored fresh a (k + cellCount c) ++ stored fresh b (k + cellCount c + cellCount a))
+    -- the condition that is asked and the body that runs advance, and the rest rests
+    stored fresh (switch o cs bs) k =
+        let state = stateOf fresh o k in
+        let first = k + length (switchForms o) in
+        let holds = isTrue (valueIn state fresh cs first) in
+        let second = secondRuns o state holds in
+        switchCells o second
+        ++ (storedIn state fresh fresh cs first ++ storedIn second fresh (makesFresh o holds || fresh) bs (first + countIn cs))
+    stored fresh (pre d a) k = Started (datumIn (value fresh a (suc k))) ∷ stored fresh a (suc k)
+    stored fresh (fby t a b) k =
+        Started (datumIn (value fresh b (suc k + cellCount a)))
+        ∷ (stored fresh a (suc k) ++ stored fresh b (suc k + cellCount a))
+    stored fresh (kept t a) k = Started (datumIn (value fresh a (suc k))) ∷ stored fresh a (suc k)
+
+    -- the one that is asked or runs advances, and the other rests
+    pub storedIn : (second whole : Bool) → Bool → Alternatives → ℕ → List Cell
+    storedIn second whole fresh (only a) k = stored fresh a k
+    storedIn second whole fresh (either a b) k =
+        cond second (resting whole a k ++ stored fresh b (k + cellCount a)) (stored fresh a k ++ resting whole b (k + cellCount a))

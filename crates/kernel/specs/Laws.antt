@@ -6,6 +6,7 @@ pub mod Counting
 pub mod Rounds
 pub mod Visits
 pub mod Passes
+pub mod Switches
 pub mod Agreement
 pub mod Knowing
 pub mod Waits
@@ -20,12 +21,15 @@ pub mod Demands
 pub mod Previews
 pub mod Typing
 pub mod Storing
+pub mod Running
 pub mod Lasts
 pub mod Kept
 pub mod Memory
 pub mod Refusals
 pub mod Answers
 pub mod Depths
+pub mod Accepted
 pub mod Sums
 pub mod KeptCells
+pub mod Machines
 pub mod Cases

@@ -3,6 +3,7 @@ pub mod Order
 pub mod Equality
 pub mod Operations
 pub mod Instant
+pub mod Running
 pub mod Systems
 pub mod Instants
 pub mod Waits

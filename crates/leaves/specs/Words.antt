@@ -51,3 +51,7 @@ isSeen fresh memory k = cond fresh false (not (eqb (markAt memory k) 0))
 -- the word that a pre yields: that of its cell where it sees it started, and else that of its constant
 abbrev pub preWord : (sheet memory : List ℕ) (at cell : ℕ) → Bool → ℕ
 preWord sheet memory at cell fresh = cond (isSeen fresh memory cell) (cellWordAt memory cell) (bodyAt sheet at)
+
+-- state 1 is the current one, which the cell of a machine has where it sees it started
+abbrev pub isSecondState : Bool → (memory : List ℕ) → (cell : ℕ) → Bool
+isSecondState fresh memory cell = cond (isSeen fresh memory cell) (eqb (cellWordAt memory cell) 1) false

@@ -50,6 +50,9 @@ table =
     ∷ finds (three (five ++ (2 ∷ 0 ∷ five))) (0 ∷ 1 ∷ 2 ∷ []) 2
     -- K7: kind 18 is no read: wire 0 is what wire 1 was, which is kept and is wire 0
     ∷ finds (0 ∷ 2 ∷ 1 ∷ 3 ∷ 1 ∷ 0 ∷ 18 ∷ 1 ∷ 2 ∷ 0 ∷ []) (0 ∷ 1 ∷ []) 2
+    -- K8: a machine reads all its operands: wires 1 and 2 in its bodies; and wire 0 itself, in a body that never runs
+    ∷ finds (three (19 ∷ 0 ∷ 0 ∷ 0 ∷ 0 ∷ 2 ∷ 1 ∷ 2 ∷ 2 ∷ (five ++ five))) (1 ∷ 2 ∷ 0 ∷ []) 2
+    ∷ refuses (three (19 ∷ 0 ∷ 0 ∷ 0 ∷ 0 ∷ (five ++ (2 ∷ 0 ∷ (five ++ five))))) 3 21 0
     -- wire 0 is wire 1, wire 1 is wire 1: the place is the wire that reaches itself, not the one that waits for it
     ∷ refuses (three (2 ∷ 1 ∷ 2 ∷ 1 ∷ five)) 3 21 1
     -- a loop of wires 1 and 2, which wire 0 does not reach

@@ -31,11 +31,11 @@ isColumn column f = passes (λ k. eqb (digitOf column k) (f k)) kindCount
 pub column-is : (column : ℕ) (f : ℕ → ℕ) → isColumn column f ≡ true → (k : ℕ) → k < kindCount → digitOf column k ≡ f k
 column-is column f e k l = eqb-true _ _ (passes-at (λ k. eqb (digitOf column k) (f k)) kindCount e k l)
 
--- a row has no more than three operands and one cell
-pub row-bounds : (k : ℕ) → k < kindCount → (countOf k ≤ 3) × (cellsOf k ≤ 1)
+-- a row has no more than four operands and one cell
+pub row-bounds : (k : ℕ) → k < kindCount → (countOf k ≤ 4) × (cellsOf k ≤ 1)
 unfolding passes
 row-bounds k l =
-    let (operands, cells) = both _ _ (passes-at (λ k. leb (countOf k) 3 && leb (cellsOf k) 1) kindCount refl k l) in
+    let (operands, cells) = both _ _ (passes-at (λ k. leb (countOf k) 4 && leb (cellsOf k) 1) kindCount refl k l) in
     (leb-true _ _ operands, leb-true _ _ cells)
 
 -- a number whose octal digits hold the types asked of the operands where `asked` is asked of the whole
@@ -53,7 +53,7 @@ module _ (column asked : ℕ) where
 
 -- the type of every operand of an operation, which is that of its first where a number is asked of the whole
 abbrev operationType : ℕ → ℕ
-operationType k = digitOf 0o310266333300100000 k % 2
+operationType k = digitOf 0o40310266333300100000 k % 2
 
 pub operation-operands : (t k : ℕ) → 4 ≤ k → k < 12 → take (countOf k) (operationType k ∷ operationType k ∷ []) ≡ operandsOf k t
 unfolding operandsOf

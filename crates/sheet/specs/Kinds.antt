@@ -1,5 +1,5 @@
--- The table of kinds, those of document 01 and document 02's kind 18, a row to a kind: bytes of body, cells owned, types of the operands,
--- own type, and the tree.
+-- The table of kinds, those of document 01 and document 02's kinds 18 and 19, a row to a kind: bytes of body, the cell owned, types of the
+-- operands, own type, and the tree.
 use Prim.Native.Nat.{ℕ, _*_, _/_, _%_, _^_}
 use mathlib.Core.Path.{_≡_, refl}
 use mathlib.Core.Bool.{Bool, false, not, _||_, cond}
@@ -7,8 +7,8 @@ use mathlib.Core.List.{List, [], _∷_, map}
 use lib.ListN.{length, getD}
 use lib.Dec.{eqb, ltb}
 use Rattle.sheet.specs.Data.{ValueType, plainByte, isKept, datumOf}
-use Rattle.sheet.specs.Expressions.{Expression, constant, wire, input, last, unary, binary, choose, reset, pre, fby}
-use Rattle.sheet.specs.Expressions.{negation, negative, conditional, present}
+use Rattle.sheet.specs.Expressions.{Expression, constant, wire, input, last, unary, binary, conditional, pre, fby}
+use Rattle.sheet.specs.Expressions.{presentOf, resetOf, machineOf, CellForm, preCell, fbyCell, stateCell, negation, negative}
 use Rattle.sheet.specs.Expressions.{conjunction, disjunction, sum, difference, lessThan, equality}
 use Rattle.sheet.specs.declared.Datum.the-variants.{Boolean}
 
@@ -32,6 +32,11 @@ named-input = 6
 abbrev pub named-kept : ℕ
 named-kept = 7
 
+-- the cell that an expression owns besides those of its operands: none, one that starts with the constant in its body, one that is not
+-- started at first, or a machine's state
+pub data Owned : Type 0 where
+  no-cell pre-cell fby-cell state-cell : Owned
+
 -- what an expression means: its tree, from its type, the number in its body and the trees of its operands
 abbrev pub Meaning : Type 0
 Meaning = ValueType → ℕ → List Expression → Expression
@@ -54,6 +59,9 @@ of-two f t body os = f (operand os 0) (operand os 1)
 abbrev of-three : (Expression → Expression → Expression → Expression) → Meaning
 of-three f t body os = f (operand os 0) (operand os 1) (operand os 2)
 
+abbrev of-four : (Expression → Expression → Expression → Expression → Expression) → Meaning
+of-four f t body os = f (operand os 0) (operand os 1) (operand os 2) (operand os 3)
+
 abbrev pre-of : Meaning
 pre-of t body os = pre (datumOf t body) (operand os 0)
 
@@ -61,34 +69,35 @@ abbrev fby-of : Meaning
 fby-of t body os = fby t (operand os 0) (operand os 1)
 
 pub data Kind : Type 0 where
-  kind : (body cells : ℕ) (operands : List ℕ) (type : ℕ) (meaning : Meaning) → Kind
+  kind : (body : ℕ) (owned : Owned) (operands : List ℕ) (type : ℕ) (meaning : Meaning) → Kind
 
 abbrev pub kinds : List Kind
 kinds =
-    kind 1 0 [] boolean constant-of  -- 0 constant
-    ∷ kind 4 0 [] number constant-of  -- 1 constant
-    ∷ kind 1 0 [] named-wire (names wire)  -- 2 wire
-    ∷ kind 1 0 [] named-input (names input)  -- 3 input
-    ∷ kind 0 0 (boolean ∷ []) boolean (of-one (unary negation))  -- 4 not
-    ∷ kind 0 0 (number ∷ []) number (of-one (unary negative))  -- 5 negate
-    ∷ kind 0 0 (boolean ∷ boolean ∷ []) boolean (of-two (binary conjunction))  -- 6 and
-    ∷ kind 0 0 (boolean ∷ boolean ∷ []) boolean (of-two (binary disjunction))  -- 7 or
-    ∷ kind 0 0 (number ∷ number ∷ []) number (of-two (binary sum))  -- 8 add
-    ∷ kind 0 0 (number ∷ number ∷ []) number (of-two (binary difference))  -- 9 subtract
-    ∷ kind 0 0 (number ∷ number ∷ []) boolean (of-two (binary lessThan))  -- 10 less than
-    ∷ kind 0 0 (number ∷ number ∷ []) boolean (of-two (binary equality))  -- 11 equal
-    ∷ kind 0 0 (boolean ∷ asked ∷ asked ∷ []) asked (of-three (choose conditional))  -- 12 if
-    ∷ kind 0 0 (boolean ∷ asked ∷ asked ∷ []) asked (of-three (choose present))  -- 13 present
-    ∷ kind 0 0 (boolean ∷ asked ∷ []) asked (of-two reset)  -- 14 reset
-    ∷ kind 1 1 (boolean ∷ []) boolean pre-of  -- 15 pre
-    ∷ kind 4 1 (number ∷ []) number pre-of  -- 16 pre
-    ∷ kind 0 1 (asked ∷ asked ∷ []) asked fby-of  -- 17 fby
-    ∷ kind 1 0 [] named-kept (names last)  -- 18 last
+    kind 1 no-cell [] boolean constant-of  -- 0 constant
+    ∷ kind 4 no-cell [] number constant-of  -- 1 constant
+    ∷ kind 1 no-cell [] named-wire (names wire)  -- 2 wire
+    ∷ kind 1 no-cell [] named-input (names input)  -- 3 input
+    ∷ kind 0 no-cell (boolean ∷ []) boolean (of-one (unary negation))  -- 4 not
+    ∷ kind 0 no-cell (number ∷ []) number (of-one (unary negative))  -- 5 negate
+    ∷ kind 0 no-cell (boolean ∷ boolean ∷ []) boolean (of-two (binary conjunction))  -- 6 and
+    ∷ kind 0 no-cell (boolean ∷ boolean ∷ []) boolean (of-two (binary disjunction))  -- 7 or
+    ∷ kind 0 no-cell (number ∷ number ∷ []) number (of-two (binary sum))  -- 8 add
+    ∷ kind 0 no-cell (number ∷ number ∷ []) number (of-two (binary difference))  -- 9 subtract
+    ∷ kind 0 no-cell (number ∷ number ∷ []) boolean (of-two (binary lessThan))  -- 10 less than
+    ∷ kind 0 no-cell (number ∷ number ∷ []) boolean (of-two (binary equality))  -- 11 equal
+    ∷ kind 0 no-cell (boolean ∷ asked ∷ asked ∷ []) asked (of-three conditional)  -- 12 if
+    ∷ kind 0 no-cell (boolean ∷ asked ∷ asked ∷ []) asked (of-three presentOf)  -- 13 present
+    ∷ kind 0 no-cell (boolean ∷ asked ∷ []) asked (of-two resetOf)  -- 14 reset
+    ∷ kind 1 pre-cell (boolean ∷ []) boolean pre-of  -- 15 pre
+    ∷ kind 4 pre-cell (number ∷ []) number pre-of  -- 16 pre
+    ∷ kind 0 fby-cell (asked ∷ asked ∷ []) asked fby-of  -- 17 fby
+    ∷ kind 1 no-cell [] named-kept (names last)  -- 18 last
+    ∷ kind 0 state-cell (boolean ∷ boolean ∷ asked ∷ asked ∷ []) asked (of-four machineOf)  -- 19 machine
     ∷ []
 
 -- how many kinds there are
 abbrev pub kindCount : ℕ
-kindCount = 19
+kindCount = 20
 
 kinds-counted : length kinds ≡ kindCount
 kinds-counted = refl
@@ -96,8 +105,8 @@ kinds-counted = refl
 abbrev pub body : Kind → ℕ
 body (kind b c os t m) = b
 
-abbrev pub cells : Kind → ℕ
-cells (kind b c os t m) = c
+abbrev pub owned : Kind → Owned
+owned (kind b c os t m) = c
 
 abbrev pub operands : Kind → List ℕ
 operands (kind b c os t m) = os
@@ -112,16 +121,41 @@ meaning (kind b c os t m) = m
 abbrev pub bodyOf : ℕ → ℕ
 bodyOf k = getD (map body kinds) k 0
 
-abbrev pub cellsOf : ℕ → ℕ
-cellsOf k = getD (map cells kinds) k 0
+abbrev pub ownedOf : ℕ → Owned
+ownedOf k = getD (map owned kinds) k no-cell
 
 abbrev pub countOf : ℕ → ℕ
 countOf k = getD (map (λ r. length (operands r)) kinds) k 0
 
--- how many of the operands, from the first on, are read within the instant: of an owner of a cell, a pre reads none, and an fby, which
--- has no body, its left side; of any other kind all
+abbrev pub cells : Owned → ℕ
+cells no-cell = 0
+cells pre-cell = 1
+cells fby-cell = 1
+cells state-cell = 1
+
+-- how many cells an expression of kind k owns itself
+abbrev pub cellsOf : ℕ → ℕ
+cellsOf k = cells (ownedOf k)
+
+abbrev readCount : Owned → ℕ → ℕ
+readCount no-cell n = n
+readCount pre-cell n = 0
+readCount fby-cell n = 1
+readCount state-cell n = n
+
+-- how many of the operands, from the first on, are read within the instant: a pre reads none, an fby its left side, and any other kind all
 abbrev pub readCountOf : ℕ → ℕ
-readCountOf k = cond (eqb (cellsOf k) 0) (countOf k) (cond (eqb (bodyOf k) 0) 1 0)
+readCountOf k = readCount (ownedOf k) (countOf k)
+
+abbrev ownedForms : Owned → ValueType → ℕ → List CellForm
+ownedForms no-cell type body = []
+ownedForms pre-cell type body = preCell (datumOf type body) ∷ []
+ownedForms fby-cell type body = fbyCell type ∷ []
+ownedForms state-cell type body = stateCell ∷ []
+
+-- the form of the cell that an expression of kind k owns itself, by its type and the number in its body
+abbrev pub ownForms : (k : ℕ) → ValueType → (body : ℕ) → List CellForm
+ownForms k = ownedForms (ownedOf k)
 
 abbrev pub ownTypeOf : ℕ → ℕ
 ownTypeOf k = getD (map type kinds) k 0

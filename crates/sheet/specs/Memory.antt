@@ -6,10 +6,11 @@ use lib.ListN.{length, getD}
 use lib.Dec.{eqb}
 use Rattle.numbers.specs.Words.{wordAt, wordBytes}
 use Rattle.sheet.specs.Data.{ValueType, boolean, number, typeOfByte, standsFor, datumOf, wordOf}
-use Rattle.sheet.specs.Kinds.{bodyOf, ownTypeOf}
+use Rattle.sheet.specs.Kinds.{Owned, no-cell, pre-cell, fby-cell, state-cell, ownedOf, ownTypeOf}
 use Rattle.sheet.specs.Expressions.{CellForm, fbyCell}
 use Rattle.sheet.specs.Outcomes.{Outcome, refusal, result, followedBy, holdsAfter, unlessLength, unlessAny, packedRefusal}
 use Rattle.sheet.specs.Sheets.{sheetForms, sheetOf}
+use Rattle.sheet.specs.declared.Datum.the-variants.{Boolean}
 use Rattle.sheet.specs.declared.Cell.{Cell}
 use Rattle.sheet.specs.declared.Cell.the-variants.{NotStarted, Started}
 use Rattle.sheet.specs.declared.Refusal.the-variants.{MemoryLength, CellContent}
@@ -76,9 +77,15 @@ memoryOf forms memory =
 unfoldable pub startMemory : List CellForm → List Cell
 startMemory = map (λ f. f .start)
 
--- the cell that an expression of kind k owns, as it is at the start, by the number in its body: an fby has no body
+abbrev ownedCell : Owned → (type body : ℕ) → Cell
+ownedCell no-cell type body = NotStarted
+ownedCell pre-cell type body = Started (datumOf (typeOfByte type) body)
+ownedCell fby-cell type body = NotStarted
+ownedCell state-cell type body = Started (Boolean false)
+
+-- the cell that an expression of kind k owns, as it is at the start, by the number in its body
 abbrev pub ownCell : (k body : ℕ) → Cell
-ownCell k body = cond (eqb (bodyOf k) 0) NotStarted (Started (datumOf (typeOfByte (ownTypeOf k)) body))
+ownCell k = ownedCell (ownedOf k) (ownTypeOf k)
 
 -- the start: the bytes of the starting memory, or 1 to 12
 unfoldable pub startOutcome : (s memory : List ℕ) → Outcome (List ℕ)

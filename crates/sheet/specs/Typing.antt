@@ -4,8 +4,8 @@ use mathlib.Core.Option.{some}
 use mathlib.Core.List.{List, [], _∷_}
 use lib.ListN.{getElem?}
 use Rattle.sheet.specs.Data.{ValueType, boolean, number, IsOf}
-use Rattle.sheet.specs.Expressions.{Expression, constant, wire, input, last, unary, binary, choose, reset, pre, fby, kept}
-use Rattle.sheet.specs.Expressions.{CellForm}
+use Rattle.sheet.specs.Expressions.{Expression, constant, wire, input, last, unary, binary, conditional, switch, pre, fby, kept}
+use Rattle.sheet.specs.Expressions.{Alternatives, only, either, CellForm}
 use Rattle.sheet.specs.Expressions.{Unary, negation, negative}
 use Rattle.sheet.specs.Expressions.{Binary, conjunction, disjunction, sum, difference, lessThan, equality}
 use Rattle.sheet.specs.Sheets.{Sheet, sheetForms}
@@ -41,18 +41,23 @@ resultType lessThan = boolean
 resultType equality = boolean
 
 module _ (inputTypes wireTypes : List ValueType) where
-  unfoldable pub HasType : ValueType → Expression → Type 0
-  HasType t (constant d) = IsOf t d
-  HasType t (wire w) = getElem? wireTypes w ≡ some t
-  HasType t (input i) = getElem? inputTypes i ≡ some t
-  HasType t (last w) = getElem? wireTypes w ≡ some t
-  HasType t (unary o a) = (unaryType o ≡ t) × HasType (unaryType o) a
-  HasType t (binary o a b) = (resultType o ≡ t) × HasType (operandType o) a × HasType (operandType o) b
-  HasType t (choose o c a b) = HasType boolean c × HasType t a × HasType t b
-  HasType t (reset c a) = HasType boolean c × HasType t a
-  HasType t (pre d a) = IsOf t d × HasType t a
-  HasType t (fby u a b) = (u ≡ t) × HasType t a × HasType t b
-  HasType t (kept u a) = (u ≡ t) × HasType t a
+  unfoldable mutual
+    pub HasType : ValueType → Expression → Type 0
+    HasType t (constant d) = IsOf t d
+    HasType t (wire w) = getElem? wireTypes w ≡ some t
+    HasType t (input i) = getElem? inputTypes i ≡ some t
+    HasType t (last w) = getElem? wireTypes w ≡ some t
+    HasType t (unary o a) = (unaryType o ≡ t) × HasType (unaryType o) a
+    HasType t (binary o a b) = (resultType o ≡ t) × HasType (operandType o) a × HasType (operandType o) b
+    HasType t (conditional c a b) = HasType boolean c × HasType t a × HasType t b
+    HasType t (switch o cs bs) = AlternativesHaveType boolean cs × AlternativesHaveType t bs
+    HasType t (pre d a) = IsOf t d × HasType t a
+    HasType t (fby u a b) = (u ≡ t) × HasType t a × HasType t b
+    HasType t (kept u a) = (u ≡ t) × HasType t a
+
+    pub AlternativesHaveType : ValueType → Alternatives → Type 0
+    AlternativesHaveType t (only a) = HasType t a
+    AlternativesHaveType t (either a b) = HasType t a × HasType t b
 
   -- each expression has its type
   abbrev pub HaveTypes : List ValueType → List Expression → Type 0

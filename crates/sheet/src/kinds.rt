@@ -9,32 +9,38 @@ ghost use Rattle.sheet.specs.Kinds.{kindCount, bodyOf, cellsOf, countOf,
 ghost use Rattle.sheet.specs.Kinds.{digitOf, operandTypeIn};
 
 // How many kinds there are.
-pub const COUNT: u8 = 19;
+pub const COUNT: u8 = 20;
+
+// An fby, whose cell is not started at first.
+pub const FBY: u8 = 17;
 
 // The kind that names a kept wire.
 pub const LAST: u8 = 18;
+
+// A machine, whose cell has its state.
+pub const MACHINE: u8 = 19;
 
 // The columns, each a number with one octal digit to a kind, that of kind 0 last, so that a digit is found by a shift: bytes of
 // body, cells owned, own type, count of operands, and how many of them are read within the instant. A type is 0 for a Boolean or 1 for a
 // number; or 4 for the type asked, 5 for the named wire's, 6 for the named input's, 7 for that of the named wire, which is kept.
 const BODIES: u64 = 0o1041000000000001141;
 
-const CELLS: u64 = 0o111000000000000000;
+const CELLS: u64 = 0o10111000000000000000;
 
-const OWN_TYPES: u64 = 0o7410444001100106510;
+const OWN_TYPES: u64 = 0o47410444001100106510;
 
-const OPERANDS: u64 = 0o211233222222110000;
+const OPERANDS: u64 = 0o40211233222222110000;
 
-const READ_OPERANDS: u64 = 0o100233222222110000;
+const READ_OPERANDS: u64 = 0o40100233222222110000;
 
 // The types that fit an expression, but that of what it names: 1 where a Boolean does, plus 2 where a number does.
-const FITTING: u64 = 0o321333112211210021;
+const FITTING: u64 = 0o30321333112211210021;
 
 // The types asked of the operands, where a Boolean is asked of the whole and where a number is: 1 where the first is a number, plus 2
 // where the second is, plus 4 where every later one is.
 const WHERE_BOOLEAN: u64 = 0o010000333300100000;
 
-const WHERE_NUMBER: u64 = 0o310266333300100000;
+const WHERE_NUMBER: u64 = 0o40310266333300100000;
 
 // The digit of a column for a kind.
 fn digit(column: u64, kind: u8) -> u8

@@ -7,11 +7,11 @@ use lib.Dec.{eqb}
 use lib.ListN.{length, getD}
 use Rattle.sheet.specs.Data.{typeOfByte}
 use Rattle.sheet.specs.Expressions.{CellForm}
-use Rattle.sheet.specs.Kinds.{cellsOf, foundOf, kindCount}
+use Rattle.sheet.specs.Kinds.{cellsOf, ownForms, foundOf, kindCount}
 use Rattle.sheet.specs.Readings.{bodyAt}
 use Rattle.sheet.specs.Memory.{cellBytes, memoryBytes, startMemory, ownCell}
 use Rattle.sheet.specs.Laws.Memory.{cell-length}
-use Rattle.sheet.specs.Laws.Readings.{ownForms, own-starts, every-kind, _▸_, end}
+use Rattle.sheet.specs.Laws.Readings.{own-starts, every-kind, _▸_, end}
 use Rattle.sheet.specs.declared.Cell.{Cell}
 use Rattle.sheet_cells.specs.Owned.{ownBytes}
 
@@ -38,7 +38,7 @@ pub own-length : (s : List ℕ) (at : ℕ) → getD s at 0 < kindCount → lengt
 own-length s at l =
     every-kind (λ k. (c : Cell) → length (cond (eqb (cellsOf k) 0) [] (cellBytes c)) ≡ 5 * cellsOf k)
     (none ▸ none ▸ none ▸ none ▸ none ▸ none ▸ none ▸ none ▸ none ▸ none ▸ none ▸ none ▸ none ▸ none ▸ none
-    ▸ cell-length ▸ cell-length ▸ cell-length ▸ none ▸ end)
+    ▸ cell-length ▸ cell-length ▸ cell-length ▸ none ▸ cell-length ▸ end)
     (getD s at 0) l (ownCell (getD s at 0) (bodyAt s at))
   where
     none : Cell → _≡_ {A = ℕ} 0 0

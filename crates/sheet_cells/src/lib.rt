@@ -1,6 +1,7 @@
 // The cell that an expression owns, as it is at the start.
 // Rests on `kinds` and `bodies` for the expression, and on `data` and `memory` for the cell.
 use sheet::Cell;
+use sheet::Datum;
 use sheet::bodies;
 use sheet::data;
 use sheet::kinds;
@@ -24,15 +25,19 @@ pub fn put_own(sheet: &[u8], at: usize, memory: &mut [u8], k: usize)
     }
 }
 
-// The cell of the expression at `at`, as it is at the start: that of an fby, which has no body, or of a pre with its constant.
+// The cell of the expression at `at`, as it is at the start: a pre's has its constant, a machine's is false, which is state 0, and an fby's is
+// not started. No other kind owns one.
 pub fn own_cell(sheet: &[u8], at: usize) -> Cell
     requires { ⌜ Whole (now sheet) at ⌝ }
     ensures { λ r. ⌜ r ≡ ownCell (getD (now (sheet .entry)) at 0) (bodyAt (now (sheet .entry)) at) ⌝ }
 {
     let kind = sheet[at];
-    if kinds::body(kind) == 0 {
-        return Cell::NotStarted;
+    match kind {
+        15 | 16 => {
+            let constant = bodies::body_at(sheet, at);
+            Cell::Started(data::datum_of(kinds::own_type(kind), constant))
+        }
+        kinds::MACHINE => Cell::Started(Datum::Boolean(false)),
+        _ => Cell::NotStarted,
     }
-    let constant = bodies::body_at(sheet, at);
-    Cell::Started(data::datum_of(kinds::own_type(kind), constant))
 }

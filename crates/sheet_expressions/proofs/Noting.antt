@@ -13,8 +13,9 @@ use borrow.Author.Tests.{ltb-true, ltb-false, ne-eqb}
 use Rattle.numbers.specs.Laws.{sets-append}
 use Rattle.wires.specs.Sets.{member}
 use Rattle.sheet.specs.Data.{ValueType, boolean, number, typeOf, typeOfByte, plainByte, isKept, wireType, datumOf}
-use Rattle.sheet.specs.Expressions.{Expression, CellForm, preCell, fbyCell, keptCell, cellForms}
-use Rattle.sheet.specs.Kinds.{kindCount, cellsOf, bodyOf, countOf, readCountOf, operandsOf}
+use Rattle.sheet.specs.Expressions.{Expression, CellForm, preCell, fbyCell, keptCell, stateCell, cellForms}
+use Rattle.sheet.specs.Kinds.{Owned, no-cell, pre-cell, fby-cell, state-cell}
+use Rattle.sheet.specs.Kinds.{kindCount, ownedOf, countOf, readCountOf, ownForms, operandsOf}
 use Rattle.sheet.specs.Lists.{among}
 use Rattle.sheet.specs.Reads.{wiresRead, allRead, wiresNamed}
 use Rattle.sheet.specs.Readings.{Reading, got, erased, readEach, namedAt, bodyAt, bodyFrom, ownOf, readExpression, Whole}
@@ -23,15 +24,14 @@ use Rattle.sheet.specs.Memory.{typeByte, formByte, startMemory, ownCell}
 use Rattle.sheet.specs.Typing.{Pairwise, done, _then_}
 use Rattle.sheet.specs.Laws.Lists.{among-append}
 use Rattle.sheet.specs.Laws.Readings.{not-good, kinds-between, _▸_, end, OwnGood, own-good, ExpressionRead, run-view, expression-view}
-use Rattle.sheet.specs.Laws.Readings.{ownForms, own-starts, forms-of-kind, own-forms-length, forms-length, operands-counted}
+use Rattle.sheet.specs.Laws.Readings.{own-starts, forms-of-kind, own-forms-length, forms-length, operands-counted}
 use Rattle.sheet.specs.Laws.Readings.{ExpressionExtent, expression-extent, run-extent}
 use Rattle.sheet.specs.Laws.Reads.{reads-of-kind}
 use Rattle.sheet.specs.declared.Refusal.{Refusal}
 use Rattle.sheet.specs.declared.Read.{Read}
 use Rattle.sheet.specs.declared.Read.the-variants.{Refused, Got}
-use Rattle.sheet.specs.declared.Cell.the-variants.{NotStarted, Started}
 use Rattle.sheet_own.specs.Own.{Joins, LeafChecks, ownEntries}
-use Rattle.sheet_own.proofs.Nodes.{leaf-cells}
+use Rattle.sheet_own.proofs.Nodes.{leaf-owned}
 use Rattle.sheet_expressions.specs.Map.{noOwner, CellNoted, Entered, keptForms, Checks}
 use Rattle.sheet_expressions.proofs.Steps.{own-refused, own-passed, by-operands, is-got}
 
@@ -39,27 +39,27 @@ use Rattle.sheet_expressions.proofs.Steps.{own-refused, own-passed, by-
 pub record Bare (k : ℕ) : Type 0 where
   pub known : k < kindCount
   pub operands : countOf k ≡ 0
-  pub cells : cellsOf k ≡ 0
+  pub owned : ownedOf k ≡ no-cell
 
 pub leaf-bare : (k : ℕ) → k < 4 → Bare k
 leaf-bare k l = record {
   known = omega arith;
   operands = kinds-between (λ k. countOf k ≡ 0) {low = 0} (refl ▸ refl ▸ refl ▸ refl ▸ end) k (omega arith) l;
-  cells = leaf-cells k l;
+  owned = leaf-owned k l;
 }
 
 last-bare : Bare 18
-last-bare = record { known = omega arith; operands = refl; cells = refl }
+last-bare = record { known = omega arith; operands = refl; owned = refl }
 
 bare-forms : {k : ℕ} → Bare k → (type : ValueType) (body : ℕ) (os : List Expression) → length os ≡ 0
     → ownForms k type body ++ formsOf os ≡ []
 unfolding formsOf
-bare-forms bare type body [] e = rw (bare .cells)
+bare-forms bare type body [] e = rw (bare .owned)
 bare-forms bare type body (a ∷ os) e = absurd (omega arith)
 
 -- so that none is read within the instant
 bare-counted : {k : ℕ} → Bare k → readCountOf k ≡ 0
-bare-counted bare = rw (bare .cells, bare .operands)
+bare-counted bare = rw (bare .owned, bare .operands)
 
 pub leaf-counted : (k : ℕ) → k < 4 → readCountOf k ≡ 0
 leaf-counted k l = bare-counted (leaf-bare k l)
@@ -108,9 +108,7 @@ pub own-entered : (inputs wires s : List ℕ) (level t at c : ℕ) {d n k : ℕ}
     → Entered s (ownForms (getD s at 0) (typeOfByte t) (bodyAt s at)) d before after
 unfolding startMemory
 own-entered inputs wires s level t at c {d} {n} {k} {before} {after} l few g e =
-    let kind = getD s at 0 in
-    go (eqb (cellsOf kind) 0) (eqb (bodyOf kind) 0)
-    (own-starts inputs wires t (namedAt s at) (bodyAt s at) kind (g .kind) (g .type)) e
+    go (ownedOf (getD s at 0)) refl
   where
     whole : (entry : ℕ) → entry / 4 ≡ at → Whole s (entry / 4)
     whole entry q = rw q (record { kind = g .kind; ends = g .ends })
@@ -123,28 +121,28 @@ own-entered inputs wires s level t at c {d} {n} {k} {before} {after} l few g e =
         let owned : eqb at noOwner ≡ false = ne-eqb at noOwner (λ e. omega (arith, g .starts)) in
         record { owner = λ other. whole (4 * at + form) place; starts = rw (place, owned) (sym starts); form = rest ∙ sym is }
 
-    go : (b f : Bool) →
-        startMemory (cond b [] (cond f (fbyCell (typeOfByte t) ∷ []) (preCell (datumOf (typeOfByte t) (bodyAt s at)) ∷ [])))
-        ≡ cond b [] (ownCell (getD s at 0) (bodyAt s at) ∷ [])
-        → after ≡ sets before d (cond b [] (cond f (4 * at + t + 2) (4 * at + t) ∷ []))
-        → Entered s (cond b [] (cond f (fbyCell (typeOfByte t) ∷ []) (preCell (datumOf (typeOfByte t) (bodyAt s at)) ∷ []))) d before after
-    go true f starts e = record { entries = []; noted = done; placed = e }
-    go false true starts e =
-        let sum : 4 * at + t + 2 ≡ 4 * at + (t + 2) = omega arith in
-        let start : NotStarted ≡ ownCell (getD s at 0) (bodyAt s at) = cc in
-        record {
-          entries = (4 * at + (t + 2)) ∷ [];
-          noted = noted (fbyCell (typeOfByte t)) (t + 2) (omega arith) (rw (type-back t l)) start then done;
-          placed = rw sum at e;
-        }
-    go false false starts e =
-        let start : Started (datumOf (typeOfByte t) (bodyAt s at)) ≡ ownCell (getD s at 0) (bodyAt s at) = cc in
-        record {
+    go : (o : Owned) → ownedOf (getD s at 0) ≡ o → Entered s (ownForms (getD s at 0) (typeOfByte t) (bodyAt s at)) d before after
+    go no-cell is = rw is record { entries = []; noted = done; placed = rw is at e }
+    go pre-cell is =
+        let starts = rw is at (own-starts inputs wires t (namedAt s at) (bodyAt s at) (getD s at 0) (g .kind) (g .type)) in
+        rw is record {
           entries = (4 * at + t) ∷ [];
           noted = noted (preCell (datumOf (typeOfByte t) (bodyAt s at))) t (omega arith) (rw (datum-type, type-back t l, add-zero))
-              start then done;
-          placed = e;
+              (rw is (cc)) then done;
+          placed = rw is at e;
         }
+    go fby-cell is =
+        let sum : 4 * at + t + 2 ≡ 4 * at + (t + 2) = omega arith in
+        rw is record {
+          entries = (4 * at + (t + 2)) ∷ [];
+          noted = noted (fbyCell (typeOfByte t)) (t + 2) (omega arith) (rw (type-back t l)) (rw is refl) then done;
+          placed = rw sum at (rw is at e);
+        }
+    go state-cell is = rw is record {
+      entries = (4 * at + 0) ∷ [];
+      noted = noted stateCell 0 (omega arith) refl (rw is refl) then done;
+      placed = rw (← (add-zero (4 * at))) at (rw is at e);
+    }
 
 -- the cell that a wire itself owns, if it is kept: its entry is that of no owner, with the type byte
 pub kept-entered : (byte : ℕ) {s : List ℕ} {d : ℕ} {before after : List ℕ} → isKept byte ≡ true

@@ -19,7 +19,7 @@ use Rattle.sheet.specs.Memory.{formByte, ownCell}
 use Rattle.sheet.specs.Typing.{Pairwise}
 use Rattle.sheet.specs.Laws.Headers.{SheetRead}
 use Rattle.sheet_names.specs.Naming.{aheadIn, Naming}
-use Rattle.sheet_own.specs.Own.{Joins}
+use Rattle.sheet_own.specs.Own.{Joins, HasOperands}
 use Rattle.sheet.specs.declared.Cell.{Cell}
 use Rattle.sheet.specs.declared.Cell.the-variants.{Started}
 use Rattle.sheet.specs.declared.Read.{Read}
@@ -100,11 +100,10 @@ pub record Checks {A : Type 0} (s : List ℕ) (formsOf : A → List CellForm) (r
   pub cells : (a : A) (n k : ℕ) → reading ≡ got a n k → Entered s (formsOf a) c before after
   pub reads : (a : A) (n k : ℕ) → reading ≡ got a n k → Joins bits (readsOf a) joint
 
--- an expression with operands, kinds 4 to 17, stands at the place, at a level that is left
+-- an expression with operands stands at the place, at a level that is left
 pub record NodeAt (s : List ℕ) (level t at c : ℕ) : Type 0 where
   pub byte : at < length s
-  pub kind : getD s at 0 < 18
-  pub operands : 4 ≤ getD s at 0
+  pub kind : HasOperands (getD s at 0)
   pub levels : 1 ≤ level
   pub asked : t < 2
   pub room : c ≤ 64

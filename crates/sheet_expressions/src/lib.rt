@@ -9,9 +9,8 @@ use sheet::kinds;
 use wires::Wires;
 ghost use mathlib.Core.Path.{_≡_};
 ghost use mathlib.Core.Bool.{cond};
-ghost use mathlib.Core.List.{List};
-ghost use Prim.Native.Nat.{ℕ, _-_, _<_, _≤_};
-ghost use lib.ListN.{length, getD, take};
+ghost use Prim.Native.Nat.{_-_, _<_, _≤_};
+ghost use lib.ListN.{length, take};
 ghost use Rattle.sheet.specs.Expressions.{cellForms};
 ghost use Rattle.sheet.specs.Kinds.{kindCount, readCountOf, operandsOf};
 ghost use Rattle.sheet.specs.Reads.{wiresRead, allRead};
@@ -103,31 +102,8 @@ fn check_node(
     check_operands(sheet, names, kind, level - 1, asked, n, k, cells, reads)
 }
 
-// The expression at `at` of kind 18, which has no operands and no cell, or of a kind above it, of which there is none: 6 and 8, then its own
-// bytes. Both are told by one test from the other kinds, so that these take no test more.
-fn check_above(
-    sheet: &&[u8],
-    names: &[u64; 10],
-    level: usize,
-    asked: u8,
-    at: usize,
-    count: usize,
-) -> Read
-    requires { ⌜ Lookup (now names) × (at < length (now (now sheet))) × (18 ≤ getD (now (now sheet)) at 0) × (asked < 2) × (count ≤ 64) ⌝ }
-    ensures { λ r. ⌜ ((l : Lookup (now (names .entry))) (number : ℕ) (cells : List ℕ) (bits : ℕ)
-        → Checks (now (now (sheet .entry))) cellForms wiresRead
-        (readExpression (l .inputs) (l .wires) (now (now (sheet .entry))) level asked at count) number r cells cells bits bits) ⌝ }
-{
-    if kinds::COUNT <= sheet[at] {
-        return sheet_own::refused(Refusal::Kind, at);
-    }
-    if level == 0 {
-        return sheet_own::refused(Refusal::Level, at);
-    }
-    sheet_own::check_last(*sheet, names, asked, at, count)
-}
-
-// The expression at `at` behind `count` cells: 2, 6 and 8, then what its kind asks.
+// The expression at `at` behind `count` cells: 2, 6 and 8, then what its kind asks. Kind 18 and what is above it, a machine or no kind at all,
+// are told by one test from the other kinds, so that these take no test more.
 fn check_one(
     sheet: &&[u8],
     names: &[u64; 10],
@@ -150,7 +126,15 @@ fn check_one(
     }
     let kind = sheet[at];
     if kinds::LAST <= kind {
-        return check_above(sheet, names, level, asked, at, count);
+        if kinds::COUNT <= kind {
+            return sheet_own::refused(Refusal::Kind, at);
+        }
+        if level == 0 {
+            return sheet_own::refused(Refusal::Level, at);
+        }
+        if kind == kinds::LAST {
+            return sheet_own::check_last(*sheet, names, asked, at, count);
+        }
     }
     if level == 0 {
         return sheet_own::refused(Refusal::Level, at);

@@ -1,89 +1,103 @@
 -- The rows of the table that leaves, expressions with operands and owners of cells have, and what their own bytes show.
-use Prim.Native.Nat.{ℕ, _+_, _≤_, _<_}
+use Prim.Native.Nat.{ℕ, _+_, _-_, _≤_, _<_}
 use mathlib.Core.Path.{_≡_, refl, sym, _∙_}
 use mathlib.Core.Bool.{Bool, true, false, cond}
 use mathlib.Core.List.{List, [], _∷_}
 use native.Mathlib.Omega.{arith}
 use lib.Dec.{eqb, leb, ltb}
 use lib.ListN.{length, getD}
-use borrow.Author.Tests.{le-ltb, lt-ltb, lt-leb, le-leb, leb-false, eqb-true, eq-eqb, ne-eqb}
-use Rattle.sheet.specs.Kinds.{bodyOf, cellsOf, ownTypeOf, typed, limitOf, namesUnkept, foundOf}
+use borrow.Author.Tests.{ltb-true, ltb-false, le-ltb, lt-ltb, lt-leb, le-leb, leb-false, eqb-true, eq-eqb, ne-eqb}
+use Rattle.sheet.specs.Kinds.{no-cell, pre-cell, ownedOf, bodyOf, cellsOf, ownTypeOf, typed, limitOf, namesUnkept, foundOf}
 use Rattle.sheet.specs.Reads.{wiresNamed}
 use Rattle.sheet.specs.Readings.{namedAt, bodyAt, namesOf, bodyFrom}
-use Rattle.sheet.specs.Laws.Readings.{not-good, kinds-between, _▸_, end}
+use Rattle.sheet.specs.Laws.Readings.{not-good, Rows, kinds-between, _▸_, end}
 use Rattle.sheet.specs.declared.Refusal.{Refusal}
 use Rattle.sheet.specs.declared.Read.{Read}
 use Rattle.sheet.specs.declared.Read.the-variants.{Refused, Got}
 use Rattle.sheet.specs.declared.Refusal.the-variants.{Cut, Body, TypeAsked, CellLimit}
 use Rattle.sheet_names.specs.Naming.{limitIn, typeIn, Naming}
-use Rattle.sheet_own.specs.Own.{Joins, LeafChecks, thenType}
+use Rattle.sheet_own.specs.Own.{Joins, LeafChecks, thenType, HasOperands}
 
 -- a leaf owns no cell
-pub leaf-cells : (k : ℕ) → k < 4 → cellsOf k ≡ 0
-leaf-cells k l = kinds-between (λ k. cellsOf k ≡ 0) {low = 0} (refl ▸ refl ▸ refl ▸ refl ▸ end) k (omega arith) l
+pub leaf-owned : (k : ℕ) → k < 4 → ownedOf k ≡ no-cell
+leaf-owned k l = kinds-between (λ k. ownedOf k ≡ no-cell) {low = 0} (refl ▸ refl ▸ refl ▸ refl ▸ end) k (omega arith) l
 
 -- and may name any wire
 leaf-unkept : (wires : List ℕ) (n k : ℕ) → k < 4 → namesUnkept wires k n ≡ false
 leaf-unkept wires n k l =
     kinds-between (λ k. namesUnkept wires k n ≡ false) {low = 0} (refl ▸ refl ▸ refl ▸ refl ▸ end) k (omega arith) l
 
+-- what holds of each kind from `low` to 17, and of 19, holds of every kind from `low` on that has operands
+nodes-from : (P : ℕ → Type 0) (low : ℕ) → Rows P low (18 - low) → P 19 → (k : ℕ) → low ≤ k → HasOperands k → P k
+nodes-from P low rows machine k above node = go (ltb k 18) refl
+  where
+    go : (b : Bool) → ltb k 18 ≡ b → P k
+    go true e = let below = ltb-true k 18 e in kinds-between P rows k above (omega arith)
+    go false e = let is : k ≡ 19 = omega (arith, ltb-false k 18 e, node .known, node .not-last) in rw is machine
+
 -- an expression with operands names nothing: it has the type of the table, and a body of one byte stays below the two Booleans
-pub node-type : (inputs wires : List ℕ) (t n k : ℕ) → 4 ≤ k → k < 18 → foundOf inputs wires t k n ≡ typed t (ownTypeOf k)
-node-type inputs wires t n = kinds-between (λ k. foundOf inputs wires t k n ≡ typed t (ownTypeOf k))
-    (refl ▸ refl ▸ refl ▸ refl ▸ refl ▸ refl ▸ refl ▸ refl ▸ refl ▸ refl ▸ refl ▸ refl ▸ refl ▸ refl ▸ end)
+pub node-type : (inputs wires : List ℕ) (t n k : ℕ) → HasOperands k → foundOf inputs wires t k n ≡ typed t (ownTypeOf k)
+node-type inputs wires t n k node = nodes-from (λ k. foundOf inputs wires t k n ≡ typed t (ownTypeOf k)) 4
+    (refl ▸ refl ▸ refl ▸ refl ▸ refl ▸ refl ▸ refl ▸ refl ▸ refl ▸ refl ▸ refl ▸ refl ▸ refl ▸ refl ▸ end) refl k (node .no-leaf) node
 
-node-limit : (inputs wires : List ℕ) (k : ℕ) → 4 ≤ k → k < 18 → limitOf inputs wires k ≡ 2
-node-limit inputs wires = kinds-between (λ k. limitOf inputs wires k ≡ 2)
-    (refl ▸ refl ▸ refl ▸ refl ▸ refl ▸ refl ▸ refl ▸ refl ▸ refl ▸ refl ▸ refl ▸ refl ▸ refl ▸ refl ▸ end)
+node-limit : (inputs wires : List ℕ) (k : ℕ) → HasOperands k → limitOf inputs wires k ≡ 2
+node-limit inputs wires k node = nodes-from (λ k. limitOf inputs wires k ≡ 2) 4
+    (refl ▸ refl ▸ refl ▸ refl ▸ refl ▸ refl ▸ refl ▸ refl ▸ refl ▸ refl ▸ refl ▸ refl ▸ refl ▸ refl ▸ end) refl k (node .no-leaf) node
 
-node-unkept : (wires : List ℕ) (n k : ℕ) → 4 ≤ k → k < 18 → namesUnkept wires k n ≡ false
-node-unkept wires n = kinds-between (λ k. namesUnkept wires k n ≡ false)
-    (refl ▸ refl ▸ refl ▸ refl ▸ refl ▸ refl ▸ refl ▸ refl ▸ refl ▸ refl ▸ refl ▸ refl ▸ refl ▸ refl ▸ end)
+node-unkept : (wires : List ℕ) (n k : ℕ) → HasOperands k → namesUnkept wires k n ≡ false
+node-unkept wires n k node = nodes-from (λ k. namesUnkept wires k n ≡ false) 4
+    (refl ▸ refl ▸ refl ▸ refl ▸ refl ▸ refl ▸ refl ▸ refl ▸ refl ▸ refl ▸ refl ▸ refl ▸ refl ▸ refl ▸ end) refl k (node .no-leaf) node
 
 plain-body : (k : ℕ) → 4 ≤ k → k < 15 → bodyOf k ≡ 0
 plain-body = kinds-between (λ k. bodyOf k ≡ 0)
     (refl ▸ refl ▸ refl ▸ refl ▸ refl ▸ refl ▸ refl ▸ refl ▸ refl ▸ refl ▸ refl ▸ end)
 
-pub plain-cells : (k : ℕ) → 4 ≤ k → k < 15 → cellsOf k ≡ 0
-plain-cells = kinds-between (λ k. cellsOf k ≡ 0)
+pub plain-owned : (k : ℕ) → 4 ≤ k → k < 15 → ownedOf k ≡ no-cell
+plain-owned = kinds-between (λ k. ownedOf k ≡ no-cell)
     (refl ▸ refl ▸ refl ▸ refl ▸ refl ▸ refl ▸ refl ▸ refl ▸ refl ▸ refl ▸ refl ▸ end)
 
-pub owner-cells : (k : ℕ) → 15 ≤ k → k < 18 → cellsOf k ≡ 1
-owner-cells = kinds-between (λ k. cellsOf k ≡ 1) (refl ▸ refl ▸ refl ▸ end)
+pub owner-cells : (k : ℕ) → 15 ≤ k → HasOperands k → cellsOf k ≡ 1
+owner-cells = nodes-from (λ k. cellsOf k ≡ 1) 15 (refl ▸ refl ▸ refl ▸ end) refl
+
+-- an owner that is neither an fby nor a machine is a pre
+pub pre-owned : (k : ℕ) → 15 ≤ k → HasOperands k → (k ≡ 17 → ⊥) → (k ≡ 19 → ⊥) → ownedOf k ≡ pre-cell
+pre-owned k owner node fby machine =
+    kinds-between (λ k. ownedOf k ≡ pre-cell) (refl ▸ refl ▸ end) k owner (omega (arith, node .known, node .not-last))
 
 -- 7 and 9 of an expression with operands
-names-node : (inputs wires s : List ℕ) (t at n k : ℕ) → 4 ≤ getD s at 0 → getD s at 0 < 18 → namedAt s at < 2
+names-node : (inputs wires s : List ℕ) (t at n k : ℕ) → HasOperands (getD s at 0) → namedAt s at < 2
     → namesOf inputs wires s t at n k ≡ thenType (getD s at 0) t at (Got n k)
 unfolding namesOf
-names-node inputs wires s t at n k node kind fine =
+names-node inputs wires s t at n k node fine =
     rw (
-      node-limit inputs wires (getD s at 0) node kind,
+      node-limit inputs wires (getD s at 0) node,
       lt-leb 2 (namedAt s at) fine,
-      node-unkept wires (namedAt s at) (getD s at 0) node kind,
-      node-type inputs wires t (namedAt s at) (getD s at 0) node kind,
+      node-unkept wires (namedAt s at) (getD s at 0) node,
+      node-type inputs wires t (namedAt s at) (getD s at 0) node,
     )
 
 -- the own bytes of one that owns no cell: nothing but 9 is left
-pub plain-own : (inputs wires s : List ℕ) (t at c : ℕ) → at < length s → 4 ≤ getD s at 0 → getD s at 0 < 15 → c ≤ 64
+pub plain-own : (inputs wires s : List ℕ) (t at c : ℕ) → at < length s → HasOperands (getD s at 0) → getD s at 0 < 15 → c ≤ 64
     → bodyFrom inputs wires s t at c ≡ thenType (getD s at 0) t at (Got (at + 1) c)
 unfolding bodyFrom
 plain-own inputs wires s t at c byte node plain room =
     let kind = getD s at 0 in
-    let cells = plain-cells kind node plain in
-    let body = plain-body kind node plain in
+    let owned = plain-owned kind (node .no-leaf) plain in
+    let body = plain-body kind (node .no-leaf) plain in
     let count : c + 0 ≡ c = omega arith in
     let past : at + 1 + 0 ≡ at + 1 = omega arith in
     let fine : namedAt s at < 2 = rw body (omega arith) in
-    rw (cells, body, count, past, le-ltb 64 c room, le-ltb (length s) (at + 1) (omega arith))
-    (names-node inputs wires s t at (at + 1) c node (omega arith) fine)
+    rw (owned, body, count, past, le-ltb 64 c room, le-ltb (length s) (at + 1) (omega arith))
+    (names-node inputs wires s t at (at + 1) c node fine)
 
 -- the own bytes of an owner, test by test
-module _ (inputs wires s : List ℕ) (t at c : ℕ) (byte : at < length s) (owner : 15 ≤ getD s at 0) (known : getD s at 0 < 18) where
+module _ (inputs wires s : List ℕ) (t at c : ℕ) (byte : at < length s) (owner : 15 ≤ getD s at 0)
+    (node : HasOperands (getD s at 0)) where
   abbrev kind : ℕ
   kind = getD s at 0
 
   one : cellsOf kind ≡ 1
-  one = owner-cells kind owner known
+  one = owner-cells kind owner node
 
   pub owner-full : 64 ≤ c → Refused CellLimit at ≡ bodyFrom inputs wires s t at c
   unfolding bodyFrom
@@ -101,12 +115,12 @@ module _ (inputs wires s : List ℕ) (t at c : ℕ) (byte : at < length s) (owne
   pub owner-wrong : c < 64 → at + bodyOf kind < length s → 1 < namedAt s at → Refused Body at ≡ bodyFrom inputs wires s t at c
   unfolding namesOf
   owner-wrong room whole wrong =
-      rw (rest room whole, node-limit inputs wires kind (omega arith) known, le-leb 2 (namedAt s at) wrong)
+      rw (rest room whole, node-limit inputs wires kind node, le-leb 2 (namedAt s at) wrong)
 
   pub owner-good : c < 64 → at + bodyOf kind < length s → namedAt s at < 2
       → thenType kind t at (Got (at + 1 + bodyOf kind) (c + 1)) ≡ bodyFrom inputs wires s t at c
   owner-good room whole fine =
-      rw (rest room whole) (sym (names-node inputs wires s t at (at + 1 + bodyOf kind) (c + 1) (omega arith) known fine))
+      rw (rest room whole) (sym (names-node inputs wires s t at (at + 1 + bodyOf kind) (c + 1) node fine))
 
 -- the own bytes of a leaf, test by test
 module _ (inputs wires names s : List ℕ) (t at c : ℕ) (naming : Naming inputs wires names) (byte : at < length s) (leaf : getD s at 0 < 4)
@@ -117,7 +131,7 @@ module _ (inputs wires names s : List ℕ) (t at c : ℕ) (naming : Naming input
   leaf-body : bodyFrom inputs wires s t at c ≡ cond (ltb (length s) (at + 1 + bodyOf leaf-kind)) (Refused Cut (length s))
       (namesOf inputs wires s t at (at + 1 + bodyOf leaf-kind) c)
   unfolding bodyFrom
-  leaf-body = let count : c + 0 ≡ c = omega arith in rw (leaf-cells leaf-kind leaf, count, le-ltb 64 c room)
+  leaf-body = let count : c + 0 ≡ c = omega arith in rw (leaf-owned leaf-kind leaf, count, le-ltb 64 c room)
 
   pub leaf-cut : length s ≤ at + bodyOf leaf-kind → Refused Cut (length s) ≡ bodyFrom inputs wires s t at c
   leaf-cut cut = rw (leaf-body, lt-ltb (length s) (at + 1 + bodyOf leaf-kind) (omega arith))

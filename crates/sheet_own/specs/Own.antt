@@ -1,12 +1,12 @@
 -- What the own bytes of an expression come to: an answer, the cell that it owns and the wire that it names.
-use Prim.Native.Nat.{ℕ, _+_, _*_}
+use Prim.Native.Nat.{ℕ, _+_, _*_, _≤_, _<_}
 use mathlib.Core.Path.{_≡_}
 use mathlib.Core.Bool.{_||_, cond}
 use mathlib.Core.List.{List, [], _∷_}
 use lib.Dec.{eqb}
 use lib.ListN.{getD}
 use Rattle.wires.specs.Sets.{member}
-use Rattle.sheet.specs.Kinds.{bodyOf, cellsOf, ownTypeOf, typed}
+use Rattle.sheet.specs.Kinds.{Owned, no-cell, pre-cell, fby-cell, state-cell, kindCount, ownedOf, ownTypeOf, typed}
 use Rattle.sheet.specs.Lists.{among}
 use Rattle.sheet.specs.Reads.{wiresNamed}
 use Rattle.sheet.specs.Readings.{bodyFrom, bodyAt}
@@ -35,7 +35,20 @@ abbrev pub thenType : (k t at : ℕ) → Read → Read
 thenType k t at (Refused why place) = Refused why place
 thenType k t at (Got n c) = cond (eqb (typed t (ownTypeOf k)) t) (Got n c) (Refused TypeAsked at)
 
--- the entry of the cell that an expression of kind k at a place owns, if it owns one, where the type byte t is asked: four times the
--- place, and the form; an fby has no body
+-- a kind with operands: no leaf, and not kind 18, which gives the cell of a kept wire
+pub record HasOperands (k : ℕ) : Type 0 where
+  pub known : k < kindCount
+  pub no-leaf : 4 ≤ k
+  pub not-last : k ≡ 18 → ⊥
+
+-- four times the place of the owner, and the form: the type byte that is asked, and 2 more where the cell may be empty; a machine's cell is a
+-- Boolean's, whatever is asked of the machine
+abbrev ownedEntries : Owned → (t at : ℕ) → List ℕ
+ownedEntries no-cell t at = []
+ownedEntries pre-cell t at = (4 * at + t) ∷ []
+ownedEntries fby-cell t at = (4 * at + t + 2) ∷ []
+ownedEntries state-cell t at = (4 * at) ∷ []
+
+-- the entry of the cell that an expression of kind k at a place owns, if it owns one, where the type byte t is asked
 abbrev pub ownEntries : (k t at : ℕ) → List ℕ
-ownEntries k t at = cond (eqb (cellsOf k) 0) [] (cond (eqb (bodyOf k) 0) (4 * at + t + 2) (4 * at + t) ∷ [])
+ownEntries k = ownedEntries (ownedOf k)

@@ -13,7 +13,7 @@ ghost use lib.Seq.{sets};
 ghost use Rattle.sheet.specs.Reads.{wiresNamed};
 ghost use Rattle.sheet.specs.Readings.{bodyFrom};
 ghost use Rattle.sheet.specs.declared.Read.the-variants.{Refused};
-ghost use Rattle.sheet_own.specs.Own.{Lookup, Joins, LeafChecks, thenType, ownEntries};
+ghost use Rattle.sheet_own.specs.Own.{Lookup, Joins, LeafChecks, thenType, HasOperands, ownEntries};
 
 // A refusal at a place.
 pub fn refused(why: Refusal, place: usize) -> Read
@@ -89,9 +89,9 @@ pub fn check_last(sheet: &[u8], names: &[u64; 10], asked: u8, at: usize, count: 
     }
 }
 
-// 10, 2 and 7 of the expression at `at`, which owns a cell, kinds 15 to 17, behind `count` others; 9 comes behind them.
+// 10, 2 and 7 of the expression at `at`, which owns a cell, kinds 15 to 17 and 19, behind `count` others; 9 comes behind them.
 fn check_cell(sheet: &[u8], at: usize, count: usize) -> Read
-    requires { ⌜ (at < length (now sheet)) × (15 ≤ getD (now sheet) at 0) × (getD (now sheet) at 0 < 18) ⌝ }
+    requires { ⌜ (at < length (now sheet)) × (15 ≤ getD (now sheet) at 0) × HasOperands (getD (now sheet) at 0) ⌝ }
     ensures { λ r. ⌜ ((inputs wires : List ℕ) (asked : ℕ)
         → thenType (getD (now (sheet .entry)) at 0) asked at r ≡ bodyFrom inputs wires (now (sheet .entry)) asked at count) ⌝ }
 {
@@ -111,9 +111,9 @@ fn check_cell(sheet: &[u8], at: usize, count: usize) -> Read
     }
 }
 
-// What the own bytes of the expression at `at`, which has operands, kinds 4 to 17, are refused for; 9 comes behind it.
+// What the own bytes of the expression at `at`, which has operands, kinds 4 to 17 and 19, are refused for; 9 comes behind it.
 pub fn check_own(sheet: &[u8], at: usize, count: usize) -> Read
-    requires { ⌜ (at < length (now sheet)) × (4 ≤ getD (now sheet) at 0) × (getD (now sheet) at 0 < 18) × (count ≤ 64) ⌝ }
+    requires { ⌜ (at < length (now sheet)) × HasOperands (getD (now sheet) at 0) × (count ≤ 64) ⌝ }
     requires { ⌜ length (now sheet) ≤ 4096 ⌝ }
     ensures { λ r. ⌜ ((inputs wires : List ℕ) (asked : ℕ)
         → thenType (getD (now (sheet .entry)) at 0) asked at r ≡ bodyFrom inputs wires (now (sheet .entry)) asked at count) ⌝ }
@@ -127,13 +127,15 @@ pub fn check_own(sheet: &[u8], at: usize, count: usize) -> Read
     check_cell(sheet, at, count)
 }
 
-// Notes the cell that an expression of this kind at `at` owns, which has this number: an fby has no body.
+// Notes the cell that an expression of this kind at `at` owns, which has this number: an fby's may be empty, and a machine's is a Boolean's.
 fn note_cell(kind: u8, asked: u8, at: usize, number: usize, cells: &mut [u16; 64])
-    requires { ⌜ (15 ≤ kind) × (kind < 18) × (asked < 2) × (at < 4096) × (number < 64) ⌝ }
+    requires { ⌜ (15 ≤ kind) × HasOperands kind × (asked < 2) × (at < 4096) × (number < 64) ⌝ }
     ensures { λ _. ⌜ now (cells .exit) ≡ sets (now (cells .entry)) number (ownEntries kind asked at) ⌝ }
 {
-    if kinds::body(kind) == 0 {
+    if kind == kinds::FBY {
         cells[number] = (4 * at + numbers::length_of(asked) + 2) as u16;
+    } else if kind == kinds::MACHINE {
+        cells[number] = (4 * at) as u16;
     } else {
         cells[number] = (4 * at + numbers::length_of(asked)) as u16;
     }
@@ -141,7 +143,7 @@ fn note_cell(kind: u8, asked: u8, at: usize, number: usize, cells: &mut [u16; 64
 
 // Notes the cell that an expression of this kind at `at` owns, if it owns one.
 pub fn note_own(kind: u8, asked: u8, at: usize, number: usize, cells: &mut [u16; 64])
-    requires { ⌜ (4 ≤ kind) × (kind < 18) × (asked < 2) × (at < 4096) × (15 ≤ kind → number < 64) ⌝ }
+    requires { ⌜ HasOperands kind × (asked < 2) × (at < 4096) × (15 ≤ kind → number < 64) ⌝ }
     ensures { λ _. ⌜ now (cells .exit) ≡ sets (now (cells .entry)) number (ownEntries kind asked at) ⌝ }
 {
     if 15 <= kind {

@@ -2,7 +2,8 @@
 // many operands are still ahead. Rests on `kinds`.
 use sheet::kinds;
 ghost use mathlib.Core.Path.{_≡_};
-ghost use Rattle.sheet_walk.specs.Skips.{Readable};
+ghost use mathlib.Core.Bool.{true};
+ghost use Rattle.sheet_walk.specs.Skips.{Readable, SkipsIf};
 
 // Where an expression ends, and the number of the first cell past its own.
 pub struct Skipped {
@@ -25,4 +26,15 @@ pub fn skip(sheet: &[u8], at: usize, cell: usize) -> Skipped
         next += 1 + kinds::body(kind);
     }
     Skipped { next, cell: count }
+}
+
+// The walk past the expression at `at` where the test holds; where it fails, no step.
+pub fn skip_if(test: bool, sheet: &[u8], at: usize, cell: usize) -> Skipped
+    requires { ⌜ (test ≡ true → Readable (now sheet) at cell) ⌝ }
+    ensures { λ r. ⌜ SkipsIf test (now (sheet .entry)) at cell r ⌝ }
+{
+    if test {
+        return skip(sheet, at, cell);
+    }
+    Skipped { next: at, cell }
 }

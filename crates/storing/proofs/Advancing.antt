@@ -10,7 +10,7 @@ use lib.ListN.{getD, take}
 use lib.Seq.{sets}
 use borrow.Author.Tests.{ltb-true, ltb-false, eqb-true, eqb-false, ne-eqb}
 use Rattle.sheet.specs.Data.{ValueType, typeOfByte, datumOf}
-use Rattle.sheet.specs.Expressions.{Unary, Binary, Choice, unary, binary, choose, reset, pre, fby, present}
+use Rattle.sheet.specs.Expressions.{Unary, Binary, unary, binary, conditional, presentOf, resetOf, pre, fby}
 use Rattle.sheet.specs.Kinds.{bodyOf, countOf, operandsOf}
 use Rattle.sheet.specs.Memory.{cellBytes, cellWordAt, memoryBytes}
 use Rattle.sheet.specs.Readings.{bodyAt}
@@ -21,7 +21,8 @@ use Rattle.sheet_walk.specs.declared.skip.Skipped.{Skipped}
 use Rattle.kernel.specs.Values.{isTrue, datumIn}
 use Rattle.operations.specs.Words.{unaryWord, binaryWord}
 use Rattle.kernel.specs.Operations.{unaryOf, binaryOf}
-use Rattle.kernel.specs.Instant.{runs, stored}
+use Rattle.kernel.specs.Instant.{stored}
+use Rattle.kernel.specs.Laws.Switches.{present-stored as present-equation, reset-stored as reset-equation}
 use Rattle.leaves.specs.Leaves.{knownBy, leafWord, lastWord}
 use Rattle.leaves.specs.Words.{isSeen, preWord}
 use Rattle.expression.specs.Places.{Placement, Gives}
@@ -57,19 +58,28 @@ module _ {sheet memory words : List ℕ} {level asked at cell : ℕ}
   unfolding stored
   binary-stored w = ap (λ e. stored (here .now) fresh e cell) (w .ends .tree) ∙ rw (operand-counted here (w .first))
 
-  choose-stored : {o : Choice} {t u s a : ℕ} (w : Three here t u s a cell (choose o))
-      → let holds = isTrue (operandValue here fresh (w .first)) in
-      wholeStored ≡ operandStored p fresh (w .first)
-      ++ (cond (runs o holds true) (operandStored p fresh (w .second)) (operandResting p fresh (w .second))
-      ++ cond (runs o holds false) (operandStored p fresh (w .third)) (operandResting p fresh (w .third)))
+  conditional-stored : {t u s a : ℕ} (w : Three here t u s a cell conditional)
+      → wholeStored ≡ operandStored p fresh (w .first) ++ (operandStored p fresh (w .second) ++ operandStored p fresh (w .third))
   unfolding stored
-  choose-stored w =
+  conditional-stored w =
       ap (λ e. stored (here .now) fresh e cell) (w .ends .tree) ∙ rw (operand-counted here (w .second), operand-counted here (w .first))
 
-  reset-stored : {t u a : ℕ} (w : Two here t u a cell reset)
+  present-stored : {t u s a : ℕ} (w : Three here t u s a cell presentOf)
+      → wholeStored ≡ operandStored p fresh (w .first)
+      ++ cond (isTrue (operandValue here fresh (w .first)))
+      (operandStored p fresh (w .second) ++ operandResting p fresh (w .third))
+      (operandResting p fresh (w .second) ++ operandStored p fresh (w .third))
+  present-stored w =
+      ap (λ e. stored (here .now) fresh e cell) (w .ends .tree)
+      ∙ present-equation (here .now) fresh (w .first .tree) (w .second .tree) (w .third .tree) cell
+      ∙ rw (operand-counted here (w .second), operand-counted here (w .first))
+
+  reset-stored : {t u a : ℕ} (w : Two here t u a cell resetOf)
       → wholeStored ≡ operandStored p fresh (w .first) ++ operandStored p (isTrue (operandValue here fresh (w .first)) || fresh) (w .second)
-  unfolding stored
-  reset-stored w = ap (λ e. stored (here .now) fresh e cell) (w .ends .tree) ∙ rw (operand-counted here (w .first))
+  reset-stored w =
+      ap (λ e. stored (here .now) fresh e cell) (w .ends .tree)
+      ∙ reset-equation (here .now) fresh (w .first .tree) (w .second .tree) cell
+      ∙ rw (operand-counted here (w .first))
 
   pre-stored : {d : Datum} {t a : ℕ} (w : One here t a (cell + 1) (pre d))
       → wholeStored ≡ Started (datumIn (operandValue here fresh (w .first))) ∷ operandStored p fresh (w .first)
@@ -167,10 +177,10 @@ module _ {sheet memory words : List ℕ} {level asked at cell : ℕ}
         let a = three-step-2 p w hc ha in
         let b = three-step-3 p w hc ha hb in
         finish (conditional-gives here fresh of (c .answer) (a .answer) (b .answer) is) (b .reached .holds)
-        (choose-stored w ∙ rw append-assoc)
+        (conditional-stored w ∙ rw append-assoc)
 
   module _ (of : kind ≡ 13) {c : Advanced} {m : List ℕ} (hc : Steps p memory 0 (at + 1) cell fresh c m) where
-    abbrev shown : Three here 0 asked asked (at + 1) cell (choose present)
+    abbrev shown : Three here 0 asked asked (at + 1) cell presentOf
     shown = present-view here of
 
     pub present-advances-first : c .word ≡ 1 → {a : Advanced} {b : Skipped} {m′ m″ : List ℕ}
@@ -181,7 +191,7 @@ module _ {sheet memory words : List ℕ} {level asked at cell : ℕ}
         let a = three-step-2 p shown hc ha in
         let b = three-rest-3 p shown hc ha hb in
         finish (present-gives-first here fresh of (c .answer) holds (a .answer) (by-walk here (shown .third) (b .answer)))
-        (b .reached .holds) (choose-stored shown ∙ rw (word-true (c .answer), holds, append-assoc))
+        (b .reached .holds) (present-stored shown ∙ rw (word-true (c .answer), holds, append-assoc))
 
     pub present-advances-second : (c .word ≡ 1 → ⊥) → {a : Skipped} {b : Advanced} {m′ m″ : List ℕ}
         → Stays p m (c .next) (c .cell) fresh a m′ → Steps p m′ asked (a .next) (a .cell) fresh b m″ → Advances p fresh b m″
@@ -190,7 +200,7 @@ module _ {sheet memory words : List ℕ} {level asked at cell : ℕ}
         let a = three-rest-2 p shown hc ha in
         let b = rest-step-3 p shown hc ha hb in
         finish (present-gives-second here fresh of (s .answer) fails (b .answer)) (b .reached .holds)
-        (choose-stored shown ∙ rw (word-true (s .answer), ne-eqb (c .word) 1 fails, append-assoc))
+        (present-stored shown ∙ rw (word-true (s .answer), ne-eqb (c .word) 1 fails, append-assoc))
 
   module _ (of : kind ≡ 14) where
     pub reset-advances : {c a : Advanced} {m m′ : List ℕ} → Steps p memory 0 (at + 1) cell fresh c m

@@ -5,3 +5,4 @@ pub mod Anew
 pub mod Resting
 pub mod Steps
 pub mod Advancing
+pub mod Machines

@@ -2,21 +2,22 @@
 -- cells are stored, or rest, as an expression has.
 use Prim.Native.Nat.{ℕ, suc, _+_, _*_, _≤_}
 use mathlib.Core.Path.{_≡_, refl, ap, _∙_}
-use mathlib.Core.Bool.{Bool, true, false, _||_, cond}
+use mathlib.Core.Bool.{Bool, true, false, _||_}
 use mathlib.Core.List.{List, [], _∷_, _++_, append-assoc}
 use native.Mathlib.Omega.{arith}
 use lib.ListN.{length, getD, take, drop, length-append, length-drop, length-map}
 use lib.Seq.{sets, length-sets, drop-cons, length-take-le}
 use Rattle.numbers.specs.Laws.{sets-past, sets-append}
-use Rattle.sheet.specs.Expressions.{Expression, constant, wire, input, last, unary, binary, choose, reset, pre, fby, kept}
-use Rattle.sheet.specs.Expressions.{CellForm, cellForms, cellCount}
+use Rattle.sheet.specs.Expressions.{Expression, constant, wire, input, last, unary, binary, conditional, switch, pre, fby, kept}
+use Rattle.sheet.specs.Expressions.{Alternatives, only, either, Switch, present, reset, machine}
+use Rattle.sheet.specs.Expressions.{CellForm, switchForms, cellForms, cellCount, countIn}
 use Rattle.sheet.specs.Memory.{cellBytes, memoryBytes, startMemory}
 use Rattle.sheet.specs.Laws.Memory.{cell-length}
 use Rattle.sheet.specs.Laws.Readings.{forms-length}
 use Rattle.sheet.specs.declared.Cell.{Cell}
 use Rattle.sheet.specs.declared.Cell.the-variants.{NotStarted}
 use Rattle.kernel.specs.Values.{isTrue}
-use Rattle.kernel.specs.Instant.{Environment, runs, value, resting, stored}
+use Rattle.kernel.specs.Instant.{Environment, stateOf, secondRuns, makesFresh, switchCells, valueIn, resting, stored, storedIn}
 use Rattle.expression.specs.Places.{CellStands, CellsStand, none, more}
 use Rattle.storing.proofs.Splices.{sets-same, drop-past}
 
@@ -68,34 +69,48 @@ module _ (now : Environment) where
   resting-length true e k l = length-map (cellForms e) (λ f. f .start) ∙ forms-length e
   resting-length false e k l = length-take-le (cellCount e) (drop k (now .memory)) (omega (arith, length-drop k (now .memory)))
 
-  arm-length : (fresh : Bool) (e : Expression) (k : ℕ) → k + cellCount e ≤ length (now .memory) → (advances : Bool)
-      → length (stored now fresh e k) ≡ cellCount e → length (cond advances (stored now fresh e k) (resting now fresh e k)) ≡ cellCount e
-  arm-length fresh e k l true h = h
-  arm-length fresh e k l false h = resting-length fresh e k l
+  switch-length : (o : Switch) (second : Bool) → length (switchCells o second) ≡ length (switchForms o)
+  switch-length present second = refl
+  switch-length reset second = refl
+  switch-length machine second = refl
 
-  pub stored-length : (fresh : Bool) (e : Expression) (k : ℕ) → k + cellCount e ≤ length (now .memory)
-      → length (stored now fresh e k) ≡ cellCount e
-  unfolding stored cellCount
-  stored-length fresh (constant d) k l = refl
-  stored-length fresh (wire w) k l = refl
-  stored-length fresh (input i) k l = refl
-  stored-length fresh (last w) k l = refl
-  stored-length fresh (unary o a) k l = stored-length fresh a k l
-  stored-length fresh (binary o a b) k l =
-      simp length-append (omega (arith, stored-length fresh a k (omega arith), stored-length fresh b (k + cellCount a) (omega arith)))
-  stored-length fresh (choose o c a b) k l =
-      let t = isTrue (value now fresh c k) in
-      let first = k + cellCount c in
-      let second = k + cellCount c + cellCount a in
-      let la = arm-length fresh a first (omega arith) (runs o t true) (stored-length fresh a first (omega arith)) in
-      let lb = arm-length fresh b second (omega arith) (runs o t false) (stored-length fresh b second (omega arith)) in
-      simp length-append (omega (arith, stored-length fresh c k (omega arith), la, lb))
-  stored-length fresh (reset c a) k l =
-      let la = stored-length (isTrue (value now fresh c k) || fresh) a (k + cellCount c) (omega arith) in
-      simp length-append (omega (arith, stored-length fresh c k (omega arith), la))
-  stored-length fresh (pre d a) k l = ap suc (stored-length fresh a (suc k) (omega arith))
-  stored-length fresh (fby t a b) k l =
-      let la = stored-length fresh a (suc k) (omega arith) in
-      let lb = stored-length fresh b (suc k + cellCount a) (omega arith) in
-      simp length-append (omega (arith, la, lb))
-  stored-length fresh (kept t a) k l = ap suc (stored-length fresh a (suc k) (omega arith))
+  mutual
+    unfolding stored cellCount
+
+    pub stored-length : (fresh : Bool) (e : Expression) (k : ℕ) → k + cellCount e ≤ length (now .memory)
+        → length (stored now fresh e k) ≡ cellCount e
+    stored-length fresh (constant d) k l = refl
+    stored-length fresh (wire w) k l = refl
+    stored-length fresh (input i) k l = refl
+    stored-length fresh (last w) k l = refl
+    stored-length fresh (unary o a) k l = stored-length fresh a k l
+    stored-length fresh (binary o a b) k l =
+        simp length-append (omega (arith, stored-length fresh a k (omega arith), stored-length fresh b (k + cellCount a) (omega arith)))
+    stored-length fresh (conditional c a b) k l =
+        let la = stored-length fresh a (k + cellCount c) (omega arith) in
+        let lb = stored-length fresh b (k + cellCount c + cellCount a) (omega arith) in
+        simp length-append (omega (arith, stored-length fresh c k (omega arith), la, lb))
+    stored-length fresh (switch o cs bs) k l =
+        let state = stateOf now fresh o k in
+        let first = k + length (switchForms o) in
+        let holds = isTrue (valueIn now state fresh cs first) in
+        let second = secondRuns o state holds in
+        let lc = stored-in-length state fresh fresh cs first (omega arith) in
+        let lb = stored-in-length second fresh (makesFresh o holds || fresh) bs (first + countIn cs) (omega arith) in
+        simp length-append (omega (arith, switch-length o second, lc, lb))
+    stored-length fresh (pre d a) k l = ap suc (stored-length fresh a (suc k) (omega arith))
+    stored-length fresh (fby t a b) k l =
+        let la = stored-length fresh a (suc k) (omega arith) in
+        let lb = stored-length fresh b (suc k + cellCount a) (omega arith) in
+        simp length-append (omega (arith, la, lb))
+    stored-length fresh (kept t a) k l = ap suc (stored-length fresh a (suc k) (omega arith))
+
+    stored-in-length : (second whole fresh : Bool) (xs : Alternatives) (k : ℕ) → k + countIn xs ≤ length (now .memory)
+        → length (storedIn now second whole fresh xs k) ≡ countIn xs
+    stored-in-length second whole fresh (only a) k l = stored-length fresh a k l
+    stored-in-length true whole fresh (either a b) k l =
+        let lb = stored-length fresh b (k + cellCount a) (omega arith) in
+        simp length-append (omega (arith, resting-length whole a k (omega arith), lb))
+    stored-in-length false whole fresh (either a b) k l =
+        let lb = resting-length whole b (k + cellCount a) (omega arith) in
+        simp length-append (omega (arith, stored-length fresh a k (omega arith), lb))

@@ -140,11 +140,11 @@ module _ {sheet memory words : List ℕ} {level asked at cell : ℕ}
   -- the operand behind it
   module _ {first : ℕ} {cs : List Cell} {t a k : ℕ} (o : Operand (p .place) t a k) {f : Bool} {m : List ℕ} {u : ℕ}
       (o′ : Operand (p .place) u (o .next) (o .count)) (inside : o′ .count ≤ p .place .count) where
-    behind-advanced : {v : Advanced} → Stepped first cs o f v m
+    pub behind-advanced : {v : Advanced} → Stepped first cs o f v m
         → Behind first (cs ++ operandStored f o) m o′ (v .next) (v .cell)
     behind-advanced s = record { reached = s .reached; inside = inside; next = s .answer .next; count = s .answer .count }
 
-    behind-rested : {v : Skipped} → Rested first cs o f v m
+    pub behind-rested : {v : Skipped} → Rested first cs o f v m
         → Behind first (cs ++ operandResting f o) m o′ (v .next) (v .cell)
     behind-rested s =
         record { reached = s .reached; inside = inside; next = ap (λ x. x .next) (s .answer); count = ap (λ x. x .cell) (s .answer) }

@@ -1,7 +1,7 @@
 -- What an expression that advances or rests asks for, and what it leaves.
 use Prim.Native.Nat.{ℕ, _*_, _≤_, _<_}
 use mathlib.Core.Path.{_≡_}
-use mathlib.Core.Bool.{Bool, true}
+use mathlib.Core.Bool.{Bool, true, false}
 use mathlib.Core.List.{List}
 use lib.ListN.{length}
 use lib.Seq.{sets}
@@ -52,3 +52,9 @@ pub record Rests {sheet memory : List ℕ} {at cell : ℕ} (p : Arm sheet memory
     : Type 0 where
   pub answer : r ≡ record { next = p .place .next; cell = p .place .count }
   pub holds : after ≡ sets memory (5 * cell) (memoryBytes (resting (p .now) fresh (p .place .tree) cell))
+
+-- the arm rests where the test holds; where it fails, nothing was done
+pub record RestsIf (test : Bool) (sheet memory : List ℕ) (at cell : ℕ) (fresh : Bool) (r : Skipped) (after : List ℕ) : Type 0 where
+  pub rests : test ≡ true → (p : Arm sheet memory at cell) → Rests p fresh r after
+  pub stays : test ≡ false → r ≡ record { next = at; cell = cell }
+  pub keeps : test ≡ false → after ≡ memory

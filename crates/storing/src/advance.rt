@@ -1,11 +1,12 @@
 // An expression advanced: its value, which is known under finished wires, and its cells stored in place. What an expression reads of the
 // memory are its own cells, so that its operands advance one after the other in one memory.
-// Rests on `operations`, on `leaf`, `lasts` and `cells` of `leaves`, and on `rest` for the arm not taken.
+// Rests on `operations`, on `leaf`, `lasts` and `cells` of `leaves`, and on `rest` for the operands that do not run.
 use crate::rest;
 use leaves::cells;
 use leaves::lasts;
 use leaves::leaf;
 use sheet::Cell;
+use sheet::Datum;
 use sheet::data;
 use sheet::kinds;
 use sheet::memory;
@@ -280,8 +281,55 @@ fn advance_pre(
     }
 }
 
-// What gives the value of a cell: kind 18, which has no cell of its own, or an fby, kind 17, whose cell is read; then both its operands
-// advance, and the cell gets the right one's value. They are one function, as in `value_held`.
+// A machine, kind 19: the condition of the current state advances, and by it a body, which is fresh where its state is entered; the other two
+// operands rest. Its cell, which is read first, gets the state whose body ran.
+fn advance_machine(
+    sheet: &[u8],
+    memory: &mut [u8],
+    words: &[u32; 144],
+    level: usize,
+    asked: u8,
+    at: usize,
+    cell: usize,
+    fresh: bool,
+) -> Advanced
+    requires { ⌜ Ready (now sheet) (now memory) (now words) level asked at cell ⌝ }
+    requires { ⌜ getD (now sheet) at 0 ≡ 19 ⌝ }
+    ensures { λ r. ⌜ ((p : Ready (now (sheet .entry)) (now (memory .entry)) (now (words .entry)) level asked at cell)
+        → Advances p fresh r (now (memory .exit))) ⌝ }
+{
+    let below = level - 1;
+    let first = at + 1;
+    let inner = cell + 1;
+    let state = cells::is_second_state(memory, cell, fresh);
+    let start = rest::rest_if(state, sheet, first, inner, fresh, memory);
+    let condition = advance_expression(
+        sheet,
+        memory,
+        words,
+        below,
+        0,
+        start.next,
+        start.cell,
+        fresh,
+    );
+    let bodies = rest::rest_if(!state, sheet, condition.next, condition.cell, fresh, memory);
+    let holds = condition.word == 1;
+    let second = state != holds;
+    let run = rest::rest_if(second, sheet, bodies.next, bodies.cell, fresh, memory);
+    let anew = holds | fresh;
+    let body = advance_by_kind(sheet, memory, words, below, asked, run.next, run.cell, anew);
+    let end = rest::rest_if(!second, sheet, body.next, body.cell, fresh, memory);
+    memory::put_cell(memory, cell, Cell::Started(Datum::Boolean(second)));
+    Advanced {
+        next: end.next,
+        word: body.word,
+        cell: end.cell,
+    }
+}
+
+// An fby, kind 17: its cell is read, then both its operands advance, and the cell gets the right one's value. Kind 18, which owns no cell, and a
+// machine are told from it here, as in `value_held`.
 fn advance_held(
     sheet: &[u8],
     memory: &mut [u8],
@@ -297,8 +345,11 @@ fn advance_held(
     ensures { λ r. ⌜ ((p : Ready (now (sheet .entry)) (now (memory .entry)) (now (words .entry)) level asked at cell)
         → Advances p fresh r (now (memory .exit))) ⌝ }
 {
-    if sheet[at] == kinds::LAST {
-        return advance_last(sheet, words, at, cell);
+    if kinds::LAST <= sheet[at] {
+        if sheet[at] == kinds::LAST {
+            return advance_last(sheet, words, at, cell);
+        }
+        return advance_machine(sheet, memory, words, level, asked, at, cell, fresh);
     }
     let below = level - 1;
     let first = at + 1;

@@ -9,7 +9,7 @@ use lib.Dec.{eqb}
 use lib.ListN.{length, getD, take}
 use borrow.Author.Tests.{ne-eqb}
 use Rattle.sheet.specs.Data.{ValueType, typeOfByte, datumOf}
-use Rattle.sheet.specs.Expressions.{Expression, choose, reset, fby, present, cellCount}
+use Rattle.sheet.specs.Expressions.{Expression, fby, presentOf, resetOf, cellCount}
 use Rattle.sheet.specs.Kinds.{kindCount, bodyOf, cellsOf, countOf, readCountOf, operand, operandsOf, meaningOf}
 use Rattle.sheet.specs.Memory.{readCell}
 use Rattle.sheet.specs.Lists.{among}
@@ -25,6 +25,7 @@ use Rattle.kernel.specs.Values.{truth, IsKnown, known}
 use Rattle.kernel.specs.Order.{valueAt}
 use Rattle.kernel.specs.Instant.{Environment, cellAt}
 use Rattle.kernel.specs.Waits.{onceKnown, leftAwaited, wiresAwaited}
+use Rattle.kernel.specs.Laws.Switches.{present-awaited as present-equation, reset-awaited as reset-equation}
 use Rattle.kernel.specs.Laws.Waits.{known-passed}
 use Rattle.kernel.specs.declared.Value.the-variants.{Unknown, Known}
 use Rattle.leaves.specs.declared.Valued.{Valued}
@@ -36,6 +37,17 @@ use Rattle.expression.proofs.Views.{present-view, reset-view, fby-view}
 use Rattle.expression.proofs.Values.{operandValue, Answers, Walked, as-known, as-unknown, by-value, by-walk, walk-behind}
 use Rattle.expression.proofs.Giving.{seen-cell, unseen-cell}
 use Rattle.waiting.specs.Waiting.{allAwaited, Behind, passed, past, Run, done, more, Counts}
+
+-- a kind whose operands count that are read within the instant, whatever their values: any but present, reset, fby and machine
+pub record Strict (kind : ℕ) : Type 0 where
+  pub not-present : kind ≡ 13 → ⊥
+  pub not-reset : kind ≡ 14 → ⊥
+  pub not-fby : kind ≡ 17 → ⊥
+  pub not-machine : kind ≡ 19 → ⊥
+
+leaf-strict : {kind : ℕ} → kind < 4 → Strict kind
+leaf-strict below =
+    record { not-present = λ e. omega arith; not-reset = λ e. omega arith; not-fby = λ e. omega arith; not-machine = λ e. omega arith }
 
 -- what the first operands wait for
 module _ (now : Environment) (fresh : Bool) where
@@ -65,47 +77,47 @@ module _ (now : Environment) (fresh : Bool) where
   three-awaited [] k l = absurd (omega arith)
   three-awaited (a ∷ os) k l = ap (λ ws. wiresAwaited now fresh a k ++ ws) (two-awaited os (k + cellCount a) (omega arith))
 
-  -- of every kind but present, reset and fby: what it names itself, and what the operands wait for that are read within the instant
-  abbrev Strict : ℕ → Type 0
-  Strict kind = (kind ≡ 13 → ⊥) → (kind ≡ 14 → ⊥) → (kind ≡ 17 → ⊥) → (t : ValueType) (body : ℕ) (os : List Expression)
+  -- what such a kind names itself, and what those operands wait for
+  abbrev StrictAwaited : ℕ → Type 0
+  StrictAwaited kind = Strict kind → (t : ValueType) (body : ℕ) (os : List Expression)
       → length os ≡ countOf kind → (c k : ℕ) → k ≡ c + cellsOf kind
       → wiresAwaited now fresh (meaningOf kind t body os) c ≡ wiresNamed kind body ++ allAwaited now fresh (take (readCountOf kind) os) k
 
-  strict-awaited : (kind : ℕ) → kind < kindCount → Strict kind
+  strict-awaited : (kind : ℕ) → kind < kindCount → StrictAwaited kind
   unfolding wiresAwaited meaningOf
-  strict-awaited = every-kind Strict
-      (none ▸ none ▸ (λ p r f t body os e c k i. ap (λ ws. body ∷ ws) (none-awaited os k)) ▸ none
-      ▸ one ▸ one ▸ two ▸ two ▸ two ▸ two ▸ two ▸ two ▸ three ▸ (λ p. absurd (p refl)) ▸ (λ p r. absurd (r refl))
-      ▸ delayed ▸ delayed ▸ (λ p r f. absurd (f refl)) ▸ none ▸ end)
+  strict-awaited = every-kind StrictAwaited
+      (none ▸ none ▸ (λ s t body os e c k i. ap (λ ws. body ∷ ws) (none-awaited os k)) ▸ none
+      ▸ one ▸ one ▸ two ▸ two ▸ two ▸ two ▸ two ▸ two ▸ three ▸ (λ s. absurd (s .not-present refl)) ▸ (λ s. absurd (s .not-reset refl))
+      ▸ delayed ▸ delayed ▸ (λ s. absurd (s .not-fby refl)) ▸ none ▸ (λ s. absurd (s .not-machine refl)) ▸ end)
     where
-      none : {A B C : Type 0} → A → B → C → ValueType → ℕ → (os : List Expression) → length os ≡ 0 → (c k : ℕ) → k ≡ c + 0
+      none : {A : Type 0} → A → ValueType → ℕ → (os : List Expression) → length os ≡ 0 → (c k : ℕ) → k ≡ c + 0
           → [] ≡ allAwaited now fresh (take 0 os) k
-      none p r f t body os e c k i = none-awaited os k
+      none s t body os e c k i = none-awaited os k
 
-      delayed : {A B C : Type 0} → A → B → C → ValueType → ℕ → (os : List Expression) → length os ≡ 1
+      delayed : {A : Type 0} → A → ValueType → ℕ → (os : List Expression) → length os ≡ 1
           → (c k : ℕ) → k ≡ c + 1 → [] ≡ allAwaited now fresh (take 0 os) k
-      delayed p r f t body os e c k i = none-awaited os k
+      delayed s t body os e c k i = none-awaited os k
 
-      one : {A B C : Type 0} → A → B → C → ValueType → ℕ → (os : List Expression) → length os ≡ 1 → (c k : ℕ) → k ≡ c + 0
+      one : {A : Type 0} → A → ValueType → ℕ → (os : List Expression) → length os ≡ 1 → (c k : ℕ) → k ≡ c + 0
           → wiresAwaited now fresh (operand os 0) c ≡ allAwaited now fresh (take 1 os) k
-      one p r f t body os e c k i = let same : k ≡ c = omega arith in rw same (one-awaited os c (omega arith))
+      one s t body os e c k i = let same : k ≡ c = omega arith in rw same (one-awaited os c (omega arith))
 
-      two : {A B C : Type 0} → A → B → C → ValueType → ℕ → (os : List Expression) → length os ≡ 2 → (c k : ℕ) → k ≡ c + 0
+      two : {A : Type 0} → A → ValueType → ℕ → (os : List Expression) → length os ≡ 2 → (c k : ℕ) → k ≡ c + 0
           → wiresAwaited now fresh (operand os 0) c ++ wiresAwaited now fresh (operand os 1) (c + cellCount (operand os 0))
           ≡ allAwaited now fresh (take 2 os) k
-      two p r f t body os e c k i = let same : k ≡ c = omega arith in rw same (two-awaited os c (omega arith))
+      two s t body os e c k i = let same : k ≡ c = omega arith in rw same (two-awaited os c (omega arith))
 
-      three : {A B C : Type 0} → A → B → C → ValueType → ℕ → (os : List Expression) → length os ≡ 3 → (c k : ℕ) → k ≡ c + 0
+      three : {A : Type 0} → A → ValueType → ℕ → (os : List Expression) → length os ≡ 3 → (c k : ℕ) → k ≡ c + 0
           → wiresAwaited now fresh (operand os 0) c
           ++ (wiresAwaited now fresh (operand os 1) (c + cellCount (operand os 0))
           ++ wiresAwaited now fresh (operand os 2) (c + cellCount (operand os 0) + cellCount (operand os 1)))
           ≡ allAwaited now fresh (take 3 os) k
-      three p r f t body os e c k i = let same : k ≡ c = omega arith in rw same (three-awaited os c (omega arith))
+      three s t body os e c k i = let same : k ≡ c = omega arith in rw same (three-awaited os c (omega arith))
 
 pub reads-few : (kind : ℕ) → kind < kindCount → readCountOf kind ≤ countOf kind
 reads-few = every-kind (λ kind. readCountOf kind ≤ countOf kind)
     (within ▸ within ▸ within ▸ within ▸ within ▸ within ▸ within ▸ within ▸ within
-    ▸ within ▸ within ▸ within ▸ within ▸ within ▸ within ▸ fewer ▸ fewer ▸ fewer ▸ within ▸ end)
+    ▸ within ▸ within ▸ within ▸ within ▸ within ▸ within ▸ fewer ▸ fewer ▸ fewer ▸ within ▸ within ▸ end)
   where
     within : {n : ℕ} → n ≤ n
     within = omega arith
@@ -151,7 +163,7 @@ module _ {sheet memory words : List ℕ} {bits level asked at cell : ℕ} (p : P
       }
 
   module _ (fresh : Bool) where
-    abbrev whole : List ℕ
+    abbrev pub whole : List ℕ
     whole = wiresAwaited (p .now) fresh (p .tree) cell
 
     sized : length (opened p .operands) ≡ countOf kind
@@ -160,31 +172,29 @@ module _ {sheet memory words : List ℕ} {bits level asked at cell : ℕ} (p : P
         run-extent (p .inputs) (p .wires) sheet _ (operandsOf kind asked) _ _ (o .run .reads) .sized
         ∙ operands-counted asked kind (o .good .kind)
 
-    strict-whole : (kind ≡ 13 → ⊥) → (kind ≡ 14 → ⊥) → (kind ≡ 17 → ⊥) → (k : ℕ) → k ≡ cell + cellsOf kind
+    strict-whole : Strict kind → (k : ℕ) → k ≡ cell + cellsOf kind
         → whole ≡ wiresNamed kind (bodyAt sheet at) ++ allAwaited (p .now) fresh (take (readCountOf kind) (opened p .operands)) k
-    strict-whole not-present not-reset not-fby k e =
+    strict-whole s k e =
         let o = opened p in
         ap (λ e. wiresAwaited (p .now) fresh e cell) (o .tree)
-        ∙ strict-awaited (p .now) fresh kind (o .good .kind) not-present not-reset not-fby (typeOfByte asked) (bodyAt sheet at)
-        (o .operands) sized cell k e
+        ∙ strict-awaited (p .now) fresh kind (o .good .kind) s (typeOfByte asked) (bodyAt sheet at) (o .operands) sized cell k e
 
     -- a leaf waits for what it names
     pub leaf-whole : kind < 4 → whole ≡ wiresNamed kind (bodyAt sheet at)
     unfolding allAwaited
     leaf-whole below =
         let none : readCountOf kind ≡ 0 = leaf-counted kind below in
-        strict-whole (λ e. omega arith) (λ e. omega arith) (λ e. omega arith) (cell + cellsOf kind) refl ∙ rw none (append-nil _)
+        strict-whole (leaf-strict below) (cell + cellsOf kind) refl ∙ rw none (append-nil _)
 
-    pub strict-counts : 4 ≤ kind → (kind ≡ 13 → ⊥) → (kind ≡ 14 → ⊥) → (kind ≡ 17 → ⊥)
-        → {body own operands rest : ℕ} → body ≡ bodyOf kind → own ≡ cellsOf kind
+    pub strict-counts : 4 ≤ kind → Strict kind → {body own operands rest : ℕ} → body ≡ bodyOf kind → own ≡ cellsOf kind
         → operands ≡ readCountOf kind → operands + rest ≡ countOf kind
         → Counts p fresh (record { at = at + 1 + body; cell = cell + own; operands = operands; rest = rest; fresh = fresh })
-    strict-counts above not-present not-reset not-fby {own = own} {operands} {rest} body-is own-is operands-are all =
+    strict-counts above s {own = own} {operands} {rest} body-is own-is operands-are all =
         let o = opened p in
         let parts = parted (operandsOf kind asked) (o .run) operands rest (all ∙ sym (operands-counted asked kind (o .good .kind))) in
         let named : wiresNamed kind (bodyAt sheet at) ≡ [] = rw (ne-eqb kind 2 (λ e. omega arith)) in
         let same : whole ≡ allAwaited (p .now) fresh (take operands (o .operands)) (cell + own) =
-        strict-whole not-present not-reset not-fby (cell + own) (ap (λ n. cell + n) own-is) ∙ rw (named, operands-are) in
+        strict-whole s (cell + own) (ap (λ n. cell + n) own-is) ∙ rw (named, operands-are) in
         record {
           operands = take operands (o .operands);
           end = parts .end;
@@ -195,29 +205,32 @@ module _ {sheet memory words : List ℕ} {bits level asked at cell : ℕ} (p : P
         }
 
   -- no operand stands behind a place, or one
-  none-behind : {a k : ℕ} {e : Expression} → Alone p a k e → Behind sheet 0 a k (p .next) (p .count)
+  pub none-behind : {a k : ℕ} {e : Expression} → Alone p a k e → Behind sheet 0 a k (p .next) (p .count)
   none-behind w = rw (w .next, w .count) passed
 
-  one-behind : {t a k : ℕ} {e : Expression} (o : Operand p t a k) → Alone p (o .next) (o .count) e → Behind sheet 1 a k (p .next) (p .count)
+  pub one-behind : {t a k : ℕ} {e : Expression} (o : Operand p t a k) → Alone p (o .next) (o .count) e → Behind sheet 1 a k (p .next) (p .count)
   one-behind o w = past (readable p o) (none-behind w)
 
   -- what an operand waits for under a freshness
-  abbrev awaits : {t a k : ℕ} → Bool → Operand p t a k → List ℕ
+  abbrev pub awaits : {t a k : ℕ} → Bool → Operand p t a k → List ℕ
   awaits {k = k} f o = wiresAwaited (p .now) f (o .tree) k
 
   -- What the whole waits for, by its operands.
   module _ (fresh : Bool) where
-    present-awaited : {t u x a : ℕ} (v : Three p t u x a cell (choose present))
+    present-awaited : {t u x a : ℕ} (v : Three p t u x a cell presentOf)
         → whole fresh ≡ awaits fresh (v .first)
         ++ onceKnown (operandValue p fresh (v .first)) (λ d. cond (truth d) (awaits fresh (v .second)) (awaits fresh (v .third)))
-    unfolding wiresAwaited
     present-awaited v =
-        ap (λ e. wiresAwaited (p .now) fresh e cell) (v .ends .tree) ∙ rw (operand-counted p (v .second), operand-counted p (v .first))
+        ap (λ e. wiresAwaited (p .now) fresh e cell) (v .ends .tree)
+        ∙ present-equation (p .now) fresh (v .first .tree) (v .second .tree) (v .third .tree) cell
+        ∙ rw (operand-counted p (v .second), operand-counted p (v .first))
 
-    reset-awaited : {t u a : ℕ} (v : Two p t u a cell reset)
+    reset-awaited : {t u a : ℕ} (v : Two p t u a cell resetOf)
         → whole fresh ≡ awaits fresh (v .first) ++ onceKnown (operandValue p fresh (v .first)) (λ d. awaits (truth d || fresh) (v .second))
-    unfolding wiresAwaited
-    reset-awaited v = ap (λ e. wiresAwaited (p .now) fresh e cell) (v .ends .tree) ∙ rw (operand-counted p (v .first))
+    reset-awaited v =
+        ap (λ e. wiresAwaited (p .now) fresh e cell) (v .ends .tree)
+        ∙ reset-equation (p .now) fresh (v .first .tree) (v .second .tree) cell
+        ∙ rw (operand-counted p (v .first))
 
     fby-awaited : {y : ValueType} {t u a : ℕ} (v : Two p t u a (cell + 1) (fby y))
         → whole fresh ≡ leftAwaited (awaits fresh (v .first)) (cond fresh NotStarted (cellAt (p .now .memory) cell))
@@ -225,14 +238,14 @@ module _ {sheet memory words : List ℕ} {bits level asked at cell : ℕ} (p : P
     fby-awaited v = ap (λ e. wiresAwaited (p .now) fresh e cell) (v .ends .tree) ∙ rw add-one
 
     -- of a known condition nothing counts: what is behind it goes by its datum
-    behind-known : {t a k : ℕ} (o : Operand p t a k) {d : Datum} → operandValue p fresh o ≡ Known d → (f : Datum → List ℕ) (w : ℕ)
+    pub behind-known : {t a k : ℕ} (o : Operand p t a k) {d : Datum} → operandValue p fresh o ≡ Known d → (f : Datum → List ℕ) (w : ℕ)
         → valueAt (p .now .wires) w ≡ Unknown → among w (awaits fresh o ++ onceKnown (operandValue p fresh o) f) ≡ among w (f d)
     behind-known {k = k} o e f w u =
         let h : IsKnown (operandValue p fresh o) = rw e known in
         among-append w (awaits fresh o) _ ∙ rw (known-passed (p .now) (o .tree) fresh k h w u, e)
 
     -- an operand alone counts, and others stand behind it
-    operand-counts : {t a k n j d : ℕ} {f : Bool} (o : Operand p t a k) → n ≡ a → j ≡ k
+    pub operand-counts : {t a k n j d : ℕ} {f : Bool} (o : Operand p t a k) → n ≡ a → j ≡ k
         → Behind sheet d (o .next) (o .count) (p .next) (p .count)
         → ((w : ℕ) → valueAt (p .now .wires) w ≡ Unknown → among w (whole fresh) ≡ among w (awaits f o))
         → Counts p fresh (record { at = n; cell = j; operands = 1; rest = d; fresh = f })

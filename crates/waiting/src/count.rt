@@ -155,6 +155,61 @@ fn count_fby(
     }
 }
 
+// Of a machine, kind 19: the condition that is asked while it is unknown, and then the body that runs, which is fresh where its state is
+// entered.
+fn count_machine(
+    sheet: &[u8],
+    memory: &&[u8],
+    known: Wires,
+    words: &[u32; 144],
+    level: usize,
+    at: usize,
+    cell: usize,
+    fresh: bool,
+) -> Counted
+    requires { ⌜ Placed (now sheet) (now (now memory)) (now words) (known .bits) level at cell ⌝ }
+    requires { ⌜ getD (now sheet) at 0 ≡ 19 ⌝ }
+    ensures { λ r. ⌜ CountsAt (now (sheet .entry)) (now (now (memory .entry))) (now (words .entry)) (known .bits) level at cell fresh r ⌝ }
+{
+    let below = level - 1;
+    let first = at + 1;
+    let inner = cell + 1;
+    let state = cells::is_second_state(*memory, cell, fresh);
+    let asked = skip::skip_if(state, sheet, first, inner);
+    let condition = expression::value::value_expression(
+        sheet,
+        memory,
+        known,
+        words,
+        below,
+        asked.next,
+        asked.cell,
+        fresh,
+    );
+    if !condition.known {
+        let rest = 2 + !state as usize;
+        return Counted {
+            at: asked.next,
+            cell: asked.cell,
+            operands: 1,
+            rest,
+            fresh,
+        };
+    }
+    let bodies = skip::skip_if(!state, sheet, condition.next, condition.cell);
+    let holds = condition.word == 1;
+    let second = state != holds;
+    let run = skip::skip_if(second, sheet, bodies.next, bodies.cell);
+    let rest = !second as usize;
+    Counted {
+        at: run.next,
+        cell: run.cell,
+        operands: 1,
+        rest,
+        fresh: holds | fresh,
+    }
+}
+
 // By the kind: of any other all operands that are read within the instant, whatever their values.
 pub fn count(
     sheet: &[u8],
@@ -179,6 +234,9 @@ pub fn count(
     }
     if kind == 17 {
         return count_fby(sheet, memory, known, words, level, at, cell, fresh);
+    }
+    if kind == kinds::MACHINE {
+        return count_machine(sheet, memory, known, words, level, at, cell, fresh);
     }
     let first = at + 1 + kinds::body(kind);
     let inner = cell + kinds::cells(kind);

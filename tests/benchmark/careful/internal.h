@@ -9,7 +9,8 @@
 #include <stdbool.h>
 
 /* How an expression stands: its level in the lowest five bits, whether it is delayed, that is under a pre or on the right of an fby, which
- * link of its parent is to lead to it, where a first operand needs none; and the type asked of it, above what a node keeps of this. */
+ * link of its parent is to lead to it, where a first operand needs none; and the type asked of it, above what a node keeps of this. A fourth
+ * operand, which only a machine has, has the bit of the third without that of a link. */
 enum {
     level_bits = 31,
     delayed_shift = 5,
@@ -18,6 +19,7 @@ enum {
     third_bit = 1 << third_shift,
     linked_shift = 7,
     linked_bit = 1 << linked_shift,
+    fourth_bits = third_bit,
     number_shift = 8,
     number_bit = 1 << number_shift
 };
@@ -70,6 +72,7 @@ struct program {
     unsigned outputs;
     unsigned cells;
     bool some_kept;
+    bool some_machine;
     uint64_t kept;       /* one bit for each wire */
     unsigned cell_limit; /* where some are kept, what the cells stay within: those of kept wires to come take up the rest */
     struct node *end;    /* of the nodes read so far */
@@ -82,6 +85,7 @@ struct program {
     uint8_t cell_type[most_cells + 1];
     uint8_t sheet[longest_sheet + 8]; /* a copy, and bytes that are no kinds: so a body may be read before it is seen to be cut */
     struct node node[1 + longest_sheet];
+    uint16_t fourth[most_cells]; /* where the fourth operand of the machine that owns a cell stands, counted from the machine */
 };
 
 /* What an instant has at hand. A wire's number counts only where the wire is known. */
@@ -148,6 +152,29 @@ static inline const struct node *second_of(const struct node *node)
 static inline const struct node *third_of(const struct node *node)
 {
     return node + node->is.link[1];
+}
+
+static inline const struct node *fourth_of(const struct program *program, const struct node *node)
+{
+    return node + program->fourth[node->first_cell];
+}
+
+/* ---- A machine ---- */
+
+/* The state in which the instant finds it: the first, whatever the cell holds, where the whole is fresh. */
+static inline bool second_state(const struct instant *instant, const struct node *node, bool fresh)
+{
+    return !fresh && instant->memory[bytes_of_cell * node->first_cell + 1] != 0;
+}
+
+static inline const struct node *condition_of(const struct node *node, bool second)
+{
+    return second ? second_of(node) : node + 1;
+}
+
+static inline const struct node *body_of(const struct program *program, const struct node *node, bool second)
+{
+    return second ? fourth_of(program, node) : third_of(node);
 }
 
 /* ---- instants.c ---- */

@@ -12,7 +12,9 @@
 #define PLACE (level_bits | delayed_bit)
 #define PLACE_AND_TYPE (PLACE | number_bit)
 
-static const struct shape shapes[kinds] = {
+/* A machine has no shape: it is read apart, so that what it alone has, a fourth operand and a cell of another type than its own, costs the
+ * others nothing. */
+static const struct shape shapes[kind_machine] = {
     [kind_boolean] = {2, 0, 0, type_boolean, 255, {0}, {0}, 255},
     [kind_number] = {5, 0, 0, type_number, 0, {0}, {0}, UINT32_MAX},
     [kind_wire] = {2, 0, 0, type_wire, 255, {0}, {0}, 255},
@@ -100,8 +102,8 @@ static uint32_t read_header(struct program *program)
 
 /* ---- The expressions ---- */
 
-/* The reading with the reads noted is made apart from that without, and that with kept wires likewise, so that none does anything for what
- * it does not need. */
+/* The reading with the reads noted is made apart from that without, and that with kept wires or machines likewise, so that none does anything
+ * for what it does not need. */
 #define ALWAYS_INLINE static inline __attribute__((always_inline))
 
 /* The wire that an expression reads within the instant, if it does; a number only counts where it is a wire's. */
@@ -123,10 +125,29 @@ static inline void note_node(struct program *program, struct node *node, unsigne
     program->cell_type[cells] = (uint8_t)(standing >> number_shift);
 }
 
-/* Reads the expression of a wire: the operands that are still to be read stand on a stack, the next one on top. */
-ALWAYS_INLINE uint32_t read_wire(struct program *program, unsigned wire, bool noting_reads, bool some_kept)
+/* A machine that is met where none is looked for is noted, so that the expressions are read again. */
+static uint32_t refuse_kind(struct program *program, size_t place)
 {
-    uint16_t stack[2 * deepest_level + 4];
+    program->some_machine = program->sheet[place] == kind_machine;
+    return place < program->length ? refusal(6, place) : refusal(2, program->length);
+}
+
+/* Puts the operands of a machine on the stack, the last one first, and answers where its top is then. */
+static inline uint16_t *push_machine(uint16_t *top, unsigned standing)
+{
+    const unsigned condition = (standing & PLACE) + 1;
+    const unsigned body = (standing & PLACE_AND_TYPE) + 1;
+    *top++ = (uint16_t)(body | fourth_bits);
+    *top++ = (uint16_t)(body | THIRD);
+    *top++ = (uint16_t)(condition | SECOND);
+    *top++ = (uint16_t)condition;
+    return top;
+}
+
+/* Reads the expression of a wire: the operands that are still to be read stand on a stack, the next one on top. */
+ALWAYS_INLINE uint32_t read_wire(struct program *program, unsigned wire, bool noting_reads, bool some_kept, bool some_machine)
+{
+    uint16_t stack[3 * deepest_level + 4];
     uint16_t *top = stack;
     size_t place = program->place;
     unsigned cells = program->cells;
@@ -138,10 +159,19 @@ ALWAYS_INLINE uint32_t read_wire(struct program *program, unsigned wire, bool no
         const unsigned standing = *--top;
         const unsigned asked = standing >> number_shift;
         const unsigned kind = program->sheet[place];
-        if (kind >= kinds)
-            return place < program->length ? refusal(6, place) : refusal(2, program->length);
+        if (kind > (some_machine ? kind_machine : kind_last))
+            return refuse_kind(program, place);
         if ((standing & level_bits) > deepest_level)
             return refusal(8, place);
+        if (some_machine && kind == kind_machine) {
+            /* Its cell is a Boolean's, whatever is asked of it. */
+            note_node(program, node++, kind, standing & ~(unsigned)number_bit, cells++, 0);
+            if (cells > cell_limit)
+                return refusal(10, place);
+            place++;
+            top = push_machine(top, standing);
+            continue;
+        }
         const struct shape *const shape = &shapes[kind];
         const uint32_t body = read_number(program->sheet + place + 1);
         const unsigned name = body & shape->name_mask;
@@ -195,7 +225,7 @@ static void number_kept(struct program *program, unsigned wire)
     program->cell_limit++;
 }
 
-ALWAYS_INLINE uint32_t read_expressions(struct program *program, bool noting_reads, bool some_kept)
+ALWAYS_INLINE uint32_t read_expressions(struct program *program, bool noting_reads, bool some_kept, bool some_machine)
 {
     program->cells = 0;
     program->end = program->node + 1;
@@ -210,7 +240,7 @@ ALWAYS_INLINE uint32_t read_expressions(struct program *program, bool noting_rea
         if (some_kept && program->types[type_wire + wire] >= kept_bit)
             number_kept(program, wire);
         program->wire_node[wire] = program->end;
-        const uint32_t refused = read_wire(program, wire, noting_reads, some_kept);
+        const uint32_t refused = read_wire(program, wire, noting_reads, some_kept, some_machine);
         if (refused != 0)
             return refused;
     }
@@ -221,6 +251,7 @@ ALWAYS_INLINE uint32_t read_expressions(struct program *program, bool noting_rea
 ALWAYS_INLINE uint32_t read_sheet_into(struct program *program, const uint8_t *sheet, size_t length, bool noting_reads)
 {
     static const uint8_t types_of_kinds[type_input] = {1, 1, 2, 3};
+    program->some_machine = false;
     if (length == 0 || length > longest_sheet)
         return refusal(1, 0);
     memcpy(program->sheet, sheet, length);
@@ -231,30 +262,39 @@ ALWAYS_INLINE uint32_t read_sheet_into(struct program *program, const uint8_t *s
     const uint32_t refused = read_header(program);
     if (refused != 0)
         return refused;
-    return program->some_kept ? read_expressions(program, noting_reads, true) : read_expressions(program, noting_reads, false);
+    return program->some_kept ? read_expressions(program, noting_reads, true, false) : read_expressions(program, noting_reads, false, false);
+}
+
+/* Reads the expressions, which begin behind the last output, again; kept wires may be there too. */
+__attribute__((noinline)) static uint32_t read_machines(struct program *program, bool noting_reads)
+{
+    program->place = (size_t)(program->output_wires + program->outputs - program->sheet);
+    return noting_reads ? read_expressions(program, true, true, true) : read_expressions(program, false, true, true);
 }
 
 uint32_t read_program(struct program *program, const uint8_t *sheet, size_t length)
 {
-    return read_sheet_into(program, sheet, length, false);
+    const uint32_t refused = read_sheet_into(program, sheet, length, false);
+    return program->some_machine ? read_machines(program, false) : refused;
 }
 
 uint32_t read_program_and_reads(struct program *program, const uint8_t *sheet, size_t length)
 {
-    return read_sheet_into(program, sheet, length, true);
+    const uint32_t refused = read_sheet_into(program, sheet, length, true);
+    return program->some_machine ? read_machines(program, true) : refused;
 }
 
 /* ---- The nodes linked ---- */
 
 /* As the table of shapes has it, without a look at the table. */
-static inline bool owns_cell(unsigned kind)
+static inline bool owns_cell(unsigned kind, bool some_machine)
 {
-    return kind >= kind_boolean_pre && kind <= kind_fby;
+    return (kind >= kind_boolean_pre && kind <= kind_fby) || (some_machine && kind == kind_machine);
 }
 
 /* Links the nodes of a wire, tells each of them its cells, and answers the wires that are read within the instant. The path leads from
  * the wire down to the node at hand. */
-static uint64_t link_wire(struct node **path, struct node *node, const struct node *end)
+ALWAYS_INLINE uint64_t link_wire(struct program *program, struct node **path, struct node *node, const struct node *end, bool some_machine)
 {
     uint64_t reads = 0;
     for (; node != end; node++) {
@@ -262,17 +302,28 @@ static uint64_t link_wire(struct node **path, struct node *node, const struct no
         const unsigned level = standing & level_bits;
         struct node *const parent = path[(level - 1) & (0u - (standing >> linked_shift))];
         parent->is.link[standing >> third_shift & 1] = (uint16_t)(node - parent);
+        if (some_machine && (standing & (linked_bit | third_bit)) == fourth_bits)
+            program->fourth[path[level - 1]->first_cell] = (uint16_t)(node - path[level - 1]);
         path[level] = node;
         reads |= read_of(node->kind, standing, node->is.number);
-        for (unsigned above = owns_cell(node->kind) ? level : 0; above != 0; above--)
+        for (unsigned above = owns_cell(node->kind, some_machine) ? level : 0; above != 0; above--)
             path[above]->end_cell = (uint8_t)(node->first_cell + 1);
     }
     return reads;
 }
 
-void link_nodes(struct program *program)
+/* The linking where there is a machine is made apart too. */
+ALWAYS_INLINE void link_wires(struct program *program, bool some_machine)
 {
     struct node *path[deepest_level + 1] = {program->node};
     for (unsigned wire = 0; wire < program->wires; wire++)
-        program->wire_reads[wire] = link_wire(path, program->wire_node[wire], program->wire_node[wire + 1]);
+        program->wire_reads[wire] = link_wire(program, path, program->wire_node[wire], program->wire_node[wire + 1], some_machine);
+}
+
+void link_nodes(struct program *program)
+{
+    if (program->some_machine)
+        link_wires(program, true);
+    else
+        link_wires(program, false);
 }

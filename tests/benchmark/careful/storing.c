@@ -13,8 +13,8 @@ void start_cells(const struct program *program, uint8_t *memory, unsigned first,
 {
     for (unsigned cell = first; cell < end; cell++) {
         const struct node *const owner = program->cell_node[cell];
-        const bool started = owner->kind != kind_fby;
-        write_cell(memory + bytes_of_cell * cell, started, started ? owner->is.number : 0);
+        /* Behind the pres come the fby, a machine, and what owns the cells of kept wires. */
+        write_cell(memory + bytes_of_cell * cell, owner->kind != kind_fby, owner->kind <= kind_number_pre ? owner->is.number : 0);
     }
 }
 
@@ -26,7 +26,7 @@ static void store_where_cells(const struct instant *instant, const struct node *
         store(instant, node, fresh);
 }
 
-static void store_arm_not_chosen(const struct instant *instant, const struct node *node, bool fresh)
+static void store_not_run(const struct instant *instant, const struct node *node, bool fresh)
 {
     if (fresh)
         start_cells(instant->program, instant->next_memory, node->first_cell, node->end_cell);
@@ -37,7 +37,7 @@ static void store_present(const struct instant *instant, const struct node *node
     const bool chosen = number_of(instant, node + 1, fresh) != 0;
     store_where_cells(instant, node + 1, fresh);
     store_where_cells(instant, chosen ? second_of(node) : third_of(node), fresh);
-    store_arm_not_chosen(instant, chosen ? third_of(node) : second_of(node), fresh);
+    store_not_run(instant, chosen ? third_of(node) : second_of(node), fresh);
 }
 
 static void store_reset(const struct instant *instant, const struct node *node, bool fresh)
@@ -45,6 +45,19 @@ static void store_reset(const struct instant *instant, const struct node *node, 
     const bool fires = number_of(instant, node + 1, fresh) != 0;
     store_where_cells(instant, node + 1, fresh);
     store_where_cells(instant, second_of(node), fresh || fires);
+}
+
+static void store_machine(const struct instant *instant, const struct node *node, bool fresh)
+{
+    const struct program *const program = instant->program;
+    const bool second = second_state(instant, node, fresh);
+    const bool leaves = number_of(instant, condition_of(node, second), fresh) != 0;
+    const bool run = second != leaves;
+    store_where_cells(instant, condition_of(node, second), fresh);
+    store_not_run(instant, condition_of(node, !second), fresh);
+    store_where_cells(instant, body_of(program, node, run), fresh || leaves);
+    store_not_run(instant, body_of(program, node, !run), fresh);
+    write_cell(instant->next_memory + bytes_of_cell * node->first_cell, 1, run);
 }
 
 static void store_own_cell(const struct instant *instant, const struct node *node, bool fresh)
@@ -66,6 +79,9 @@ static void store(const struct instant *instant, const struct node *node, bool f
         return;
     case kind_reset:
         store_reset(instant, node, fresh);
+        return;
+    case kind_machine:
+        store_machine(instant, node, fresh);
         return;
     case kind_boolean_pre:
     case kind_number_pre:

@@ -159,6 +159,23 @@ static uint64_t value_of_last(const struct instant *instant, const struct node *
     return KNOWN | number_of_last(instant, node, fresh);
 }
 
+static uint32_t number_of_machine(const struct instant *instant, const struct node *node, bool fresh)
+{
+    const bool second = second_state(instant, node, fresh);
+    const bool leaves = number_of(instant, condition_of(node, second), fresh) != 0;
+    return number_of(instant, body_of(instant->program, node, second != leaves), fresh || leaves);
+}
+
+static uint64_t value_of_machine(const struct instant *instant, const struct node *node, bool fresh)
+{
+    const bool second = second_state(instant, node, fresh);
+    const uint64_t condition = value_of(instant, condition_of(node, second), fresh);
+    if (!is_known(condition))
+        return 0;
+    const bool leaves = (uint32_t)condition != 0;
+    return value_of(instant, body_of(instant->program, node, second != leaves), fresh || leaves);
+}
+
 number_function *const number_functions[kinds] = {
     [kind_boolean] = number_of_constant,
     [kind_number] = number_of_constant,
@@ -178,6 +195,7 @@ number_function *const number_functions[kinds] = {
     [kind_number_pre] = number_of_pre,
     [kind_fby] = number_of_fby,
     [kind_last] = number_of_last,
+    [kind_machine] = number_of_machine,
 };
 
 value_function *const value_functions[kinds] = {
@@ -199,4 +217,5 @@ value_function *const value_functions[kinds] = {
     [kind_number_pre] = value_of_pre,
     [kind_fby] = value_of_fby,
     [kind_last] = value_of_last,
+    [kind_machine] = value_of_machine,
 };

@@ -1,5 +1,5 @@
-/* Which unknown wire waits for which, in careful C. A known condition waits for nothing, so that only the chosen arm or the operand is looked
- * at behind it. Rests on values.c for the value of a condition and on loops.c.
+/* Which unknown wire waits for which, in careful C. A known condition waits for nothing, so that only the chosen arm, the operand or the body
+ * that runs is looked at behind it. Rests on values.c for the value of a condition and on loops.c.
  */
 #include "benchmark/careful/internal.h"
 
@@ -19,6 +19,16 @@ static uint64_t waits_of_reset(const struct instant *instant, const struct node 
     if (!is_known(condition))
         return waits_of(instant, node + 1, fresh);
     return waits_of(instant, second_of(node), fresh || (uint32_t)condition != 0);
+}
+
+static uint64_t waits_of_machine(const struct instant *instant, const struct node *node, bool fresh)
+{
+    const bool second = second_state(instant, node, fresh);
+    const uint64_t condition = value_of(instant, condition_of(node, second), fresh);
+    if (!is_known(condition))
+        return waits_of(instant, condition_of(node, second), fresh);
+    const bool leaves = (uint32_t)condition != 0;
+    return waits_of(instant, body_of(instant->program, node, second != leaves), fresh || leaves);
 }
 
 static uint64_t waits_of(const struct instant *instant, const struct node *node, bool fresh)
@@ -42,6 +52,8 @@ static uint64_t waits_of(const struct instant *instant, const struct node *node,
         return waits_of_present(instant, node, fresh);
     case kind_reset:
         return waits_of_reset(instant, node, fresh);
+    case kind_machine:
+        return waits_of_machine(instant, node, fresh);
     case kind_fby:
         return fresh || instant->memory[bytes_of_cell * node->first_cell] == 0 ? waits_of(instant, node + 1, fresh) : 0;
     default:

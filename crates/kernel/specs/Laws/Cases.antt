@@ -1,4 +1,5 @@
--- The table of worked cases holds, and the scheduled instant is refused on every list for the sheet of case L.
+-- What holds of single worked cases: the scheduled instant is refused on every list for the sheet of case L, and a round over false values keeps
+-- them.
 use mathlib.Core.Path.{_≡_, refl, sym, ap, _∙_}
 use Prim.Native.Nat.{ℕ, zero, suc}
 use native.Mathlib.Omega.{arith}
@@ -7,33 +8,27 @@ use mathlib.Core.List.{List, [], _∷_}
 use lib.IntN.{pos}
 use Rattle.numbers.specs.Numbers.{settled, equals}
 use Rattle.sheet.specs.Data.{boolean, number}
-use Rattle.sheet.specs.Expressions.{constant, wire, input, unary, binary, choose, cellForms, cellCount}
-use Rattle.sheet.specs.Expressions.{negative, sum, Choice, conditional, present}
+use Rattle.sheet.specs.Expressions.{Expression, constant, wire, input, unary, binary, conditional, presentOf, cellCount}
+use Rattle.sheet.specs.Expressions.{negative, sum}
 use Rattle.sheet.specs.Kinds.{meaningOf, operandsOf}
 use Rattle.sheet.specs.Outcomes.{Outcome, refusal, result, followedBy, lowest}
 use Rattle.sheet.specs.Readings.{readEach, namesOf, bodyFrom, ownOf, readExpression}
 use Rattle.sheet.specs.Headers.{fieldOf, bytesOf, sectionOf}
-use Rattle.sheet.specs.Sheets.{Sheet, formsOf, keptCount, readWires, outputsFrom, wiresFrom, readSheet, sheetOf}
-use Rattle.sheet.specs.Memory.{memoryBytes, invalidAt, cellsFrom, memoryOf, startMemory, startOutcome, startCall}
-use Rattle.sheet.specs.Rows.{rowBytes, wrongAt, dataFrom, inputsOf}
+use Rattle.sheet.specs.Sheets.{Sheet, keptCount, readWires, outputsFrom, wiresFrom, readSheet, sheetOf}
 use Rattle.sheet.specs.Laws.Outcomes.{same-result}
 use Rattle.sheet.specs.declared.Datum.the-variants.{Boolean, Number}
 use Rattle.sheet.specs.declared.Refusal.{Refusal}
-use Rattle.closure.specs.Closures.{through, lowestLoop}
 use Rattle.kernel.specs.Order.{valueAt}
 use Rattle.kernel.specs.Equality.{sameDatum, sameValue, sameValues}
-use Rattle.sheet.specs.Lists.{among, allAmong}
 use Rattle.sheet.specs.Reads.{wiresRead}
-use Rattle.kernel.specs.Instant.{value, resting, stored}
-use Rattle.kernel.specs.Waits.{wiresAwaited, waitsFor, lowestWaiting}
+use Rattle.kernel.specs.Instant.{value}
 use Rattle.kernel.specs.Systems as System
 use Rattle.kernel.specs.Systems.{Full}
-use Rattle.kernel.specs.Instants.{readsAt, valueOfWire, values, storedCells, lastsFrom, round, rounds, finished, nextMemory, outputRow}
-use Rattle.kernel.specs.Schedules.{entryAt, notNew, tooEarly, scheduleOf, passFrom, pass}
-use Rattle.kernel.specs.Depths.{deepest, depthWithin, depthOf, wiresBelow, greatestDepth}
-use Rattle.kernel.specs.Calls.{Given, givenOf, anyUnknown, placeOfLoop, acceptedOf, inRounds, scheduled, scheduledAnswer}
-use Rattle.kernel.specs.Calls.{roundsCall, scheduledCall}
-use Rattle.kernel.specs.Cases.{sameBytes, all, agrees, holdsFrom, holds, crossedSheet, table, memoryAfter, leaves, cellTable}
+use Rattle.kernel.specs.Instants.{readsAt, values, round, rounds, finished}
+use Rattle.kernel.specs.Schedules.{entryAt, tooEarly, scheduleOf, pass}
+use Rattle.kernel.specs.Calls.{Given, givenOf, acceptedOf, scheduled, scheduledAnswer}
+use Rattle.kernel.specs.Calls.{scheduledCall}
+use Rattle.kernel.specs.Cases.{all, holds, crossedSheet}
 use Rattle.kernel.specs.Laws.Order.{not-known}
 use Rattle.kernel.specs.Laws.Given.{given-by}
 use Rattle.kernel.specs.Laws.Schedules.{Passed, schedule-passed, pass-full-of, pass-finished}
@@ -42,50 +37,28 @@ use Rattle.kernel.specs.declared.Value.the-variants.{Unknown, Known}
 use Rattle.kernel.specs.declared.Scheduled.{Scheduled}
 use Rattle.kernel.specs.declared.Scheduled.the-variants.{Refused}
 
-pub table-holds : all holds table ≡ true
-unfolding settled equals cellForms cellCount meaningOf operandsOf lowest
-    readEach namesOf bodyFrom ownOf readExpression fieldOf bytesOf sectionOf formsOf keptCount readWires outputsFrom wiresFrom readSheet
-    sheetOf memoryBytes invalidAt cellsFrom memoryOf startMemory startOutcome startCall rowBytes wrongAt dataFrom inputsOf
-    sameDatum sameValue sameValues among allAmong wiresRead value resting stored
-    System.after System.unchanged System.rounds System.finished
-    readsAt valueOfWire values storedCells lastsFrom round rounds finished nextMemory outputRow
-    through lowestLoop wiresAwaited waitsFor lowestWaiting
-    notNew tooEarly scheduleOf passFrom pass givenOf anyUnknown placeOfLoop acceptedOf inRounds scheduled roundsCall scheduledCall
-    deepest depthWithin depthOf wiresBelow greatestDepth sameBytes all agrees holdsFrom holds table
-table-holds = refl
-
-pub cells-left : all leaves cellTable ≡ true
-unfolding settled cellForms cellCount meaningOf operandsOf lowest
-    readEach namesOf bodyFrom ownOf readExpression fieldOf bytesOf sectionOf formsOf keptCount readWires outputsFrom wiresFrom readSheet
-    sheetOf memoryBytes invalidAt cellsFrom memoryOf startMemory startOutcome startCall rowBytes wrongAt dataFrom inputsOf
-    sameDatum sameValue sameValues wiresRead value resting stored
-    System.after System.unchanged System.rounds System.finished
-    values storedCells lastsFrom round rounds finished nextMemory outputRow givenOf anyUnknown acceptedOf inRounds roundsCall
-    sameBytes all memoryAfter leaves cellTable
-cells-left = refl
-
 -- Case L: no list passes. Passing goes by reads alone. With `if` for `present` the sheet has the same reads, so that a list
 -- that passes would make all its wires known; yet they stay unknown.
-abbrev crossed : Choice → Sheet
+abbrev crossed : (Expression → Expression → Expression → Expression) → Sheet
 crossed choice = record {
   inputTypes = boolean ∷ number ∷ [];
   wireTypes = number ∷ number ∷ number ∷ number ∷ number ∷ [];
   outputs = 4 ∷ [];
   expressions =
-      choose choice (input 0) (input 1) (wire 3)
-      ∷ choose choice (input 0) (wire 2) (input 1)
+      choice (input 0) (input 1) (wire 3)
+      ∷ choice (input 0) (wire 2) (input 1)
       ∷ binary sum (wire 0) (constant (Number (pos 1)))
       ∷ unary negative (wire 1)
-      ∷ choose choice (input 0) (wire 3) (wire 2)
+      ∷ choice (input 0) (wire 3) (wire 2)
       ∷ [];
 }
 
-crossed-read : sheetOf (crossedSheet 13) ≡ result (crossed present)
+crossed-read : sheetOf (crossedSheet 13) ≡ result (crossed presentOf)
 unfolding meaningOf operandsOf readEach namesOf bodyFrom ownOf readExpression fieldOf bytesOf sectionOf
     keptCount readWires outputsFrom wiresFrom readSheet sheetOf
 crossed-read = refl
 
-crossed-reads : (w : ℕ) → readsAt (crossed present .expressions) w ≡ readsAt (crossed conditional .expressions) w
+crossed-reads : (w : ℕ) → readsAt (crossed presentOf .expressions) w ≡ readsAt (crossed conditional .expressions) w
 unfolding readsAt wiresRead
 crossed-reads zero = refl
 crossed-reads (suc zero) = refl
@@ -99,7 +72,7 @@ unfolding settled equals lowest sameDatum sameValue sameValues cellCount value
     System.after System.unchanged System.rounds System.finished values round finished
 crossed-unknown = refl
 
-crossed-no-schedule : (list : List ℕ) → Passed (crossed present) list → ⊥
+crossed-no-schedule : (list : List ℕ) → Passed (crossed presentOf) list → ⊥
 unfolding Full tooEarly
 crossed-no-schedule list here =
     let there : Passed (crossed conditional) list = record {
@@ -122,7 +95,7 @@ pub crossed-refused : (memory row output list : List ℕ) → IsRefused (schedul
 unfolding scheduledCall scheduled
 crossed-refused memory row output list = go (givenOf (crossedSheet 13) memory row output) refl
   where
-    along : (given : Given) → given .sheet ≡ crossed present → (x : Outcome (List ℕ)) → scheduleOf (given .sheet) list ≡ x
+    along : (given : Given) → given .sheet ≡ crossed presentOf → (x : Outcome (List ℕ)) → scheduleOf (given .sheet) list ≡ x
         → IsRefused (scheduledAnswer (followedBy x (λ order. acceptedOf given 0 (pass (given .sheet) (given .inputs) (given .memory) order))))
     along given same (refusal why place) e = record { why = why; place = place; refused = refl }
     along given same (result order) e =

@@ -6,7 +6,7 @@ use native.Mathlib.Omega.{arith}
 use lib.ListN.{length}
 use mathlib.Core.List.{List}
 use Rattle.sheet.specs.Data.{ValueType, IsOf, datumOf}
-use Rattle.sheet.specs.Expressions.{Expression, constant, wire, input, last, unary, binary, choose, reset, pre, fby, kept}
+use Rattle.sheet.specs.Expressions.{Expression, constant, wire, input, last, unary, binary, conditional, switch, pre, fby, kept}
 use Rattle.sheet.specs.Expressions.{keptCell, cellForms, cellCount}
 use Rattle.sheet.specs.Sheets.{formsOf, expressionAt, cellsBefore}
 use Rattle.sheet.specs.Typing.{done, _then_, HasType, HaveTypes, ValidCell, ValidRow}
@@ -30,8 +30,8 @@ last-typed is ws t (input i) memory k h m = datum-is t 0
 last-typed is ws t (last w) memory k h m = datum-is t 0
 last-typed is ws t (unary o a) memory k h m = datum-is t 0
 last-typed is ws t (binary o a b) memory k h m = datum-is t 0
-last-typed is ws t (choose o c a b) memory k h m = datum-is t 0
-last-typed is ws t (reset c a) memory k h m = datum-is t 0
+last-typed is ws t (conditional c a b) memory k h m = datum-is t 0
+last-typed is ws t (switch o cs bs) memory k h m = datum-is t 0
 last-typed is ws t (pre d a) memory k h m = datum-is t 0
 last-typed is ws t (fby u a b) memory k h m = datum-is t 0
 last-typed is ws t (kept u a) memory k h m = held (cellAt memory k) (subst (λ x. ValidCell (keptCell x) (cellAt memory k)) (h .0) (m .1))

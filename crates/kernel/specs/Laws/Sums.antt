@@ -1,31 +1,23 @@
 -- Document 02, K2: add, subtract and negate stop at the ends. What one of them gives is the nearest number of 32 bits to the exact result
 -- of its operands' numbers: wherever the expression stands, and of every wire in an accepted instant, from the answer of the call.
-use Prim.Native.Nat.{ℕ, zero, suc, _+_, _<_}
-use mathlib.Core.Path.{_≡_, refl, sym, ap, _∙_}
+use Prim.Native.Nat.{ℕ, suc, _+_, _<_}
+use mathlib.Core.Path.{_≡_, refl}
 use mathlib.Core.Bool.{Bool, false}
 use mathlib.Core.List.{List, _++_}
-use native.Mathlib.Nat.{zero-add, add-zero}
-use native.Mathlib.Omega.{arith}
 use lib.IntN.{ℤ, negℤ, _+ℤ_, _-ℤ_}
 use lib.ListN.{length}
 use Rattle.numbers.specs.Laws.Nearest.{Nearest, settled-nearest}
 use Rattle.sheet.specs.Data.{ValueType, number}
 use Rattle.sheet.specs.Expressions.{Expression, unary, binary, kept, negative, sum, difference, cellForms, cellCount}
-use Rattle.sheet.specs.Sheets.{formsOf, expressionAt, cellsBefore}
-use Rattle.sheet.specs.Typing.{done, _then_, HasType, HaveTypes, ValidRow}
-use Rattle.sheet.specs.declared.Cell.{Cell}
+use Rattle.sheet.specs.Sheets.{expressionAt, cellsBefore}
+use Rattle.sheet.specs.Typing.{HasType, ValidRow}
 use Rattle.sheet.specs.declared.Datum.the-variants.{Boolean, Number}
 use Rattle.kernel.specs.Values.{Has, has}
 use Rattle.kernel.specs.Order.{valueAt}
 use Rattle.kernel.specs.Instant.{Environment, value}
-use Rattle.kernel.specs.Systems.{Full, Solution}
-use Rattle.kernel.specs.Instants.{wireCount, under, finished}
 use Rattle.kernel.specs.Calls.{roundsCall}
-use Rattle.kernel.specs.Laws.Instants.{behind-first, value-of-wire, round-at}
-use Rattle.kernel.specs.Laws.Typing.{OnWires, ValidFrom, parts, valid-from-start, has-inherited, value-typed}
-use Rattle.kernel.specs.Laws.Solutions.{finished-solution}
-use Rattle.kernel.specs.Laws.Memory.{lasts-valid, finished-has, given-valid}
-use Rattle.kernel.specs.Laws.Answers.{AcceptedAfter, demand2-answered}
+use Rattle.kernel.specs.Laws.Typing.{OnWires, ValidFrom, parts, has-inherited, value-typed}
+use Rattle.kernel.specs.Laws.Accepted.{solved, equations, final, final-typed, equation-typed, wire-holds}
 use Rattle.kernel.specs.declared.Value.{Value}
 use Rattle.kernel.specs.declared.Value.the-variants.{Known}
 use Rattle.kernel.specs.declared.InRounds.the-variants.{Accepted}
@@ -93,56 +85,17 @@ module _ (inputTypes wireTypes : List ValueType) (now : Environment)
   exact-of (keeps sums) fresh k t typed cells =
       let (z, exact) = exact-of sums fresh (suc k) t (typed .1) (cells .2) in (z, kept-exact exact)
 
--- the expression of a wire has a type, and its cells are valid
-wire-typed : (inputTypes wireTypes : List ValueType) (memory : List Cell) {ts : List ValueType} {es : List Expression} (k w : ℕ)
-    → HaveTypes inputTypes wireTypes ts es → ValidFrom memory (formsOf es) k → w < length es
-    → ((t : ValueType) × HasType inputTypes wireTypes t (expressionAt es w))
-    × ValidFrom memory (cellForms (expressionAt es w)) (k + cellsBefore es w)
-unfolding formsOf
-wire-typed inputTypes wireTypes memory k w done cells l = absurd (omega arith)
-wire-typed inputTypes wireTypes memory k zero (_then_ {x = t} {y = e} {ys = es} typed rest) cells l =
-    ((t, typed), rw add-zero (parts memory e (formsOf es) k cells .0))
-wire-typed inputTypes wireTypes memory k (suc w) (_then_ {y = e} {ys = es} typed rest) cells l =
-    rw (behind-first e es k w)
-    (wire-typed inputTypes wireTypes memory (k + cellCount e) w rest (parts memory e (formsOf es) k cells .1) (omega arith))
-
 module _ (s memory input output : List ℕ) {r : ℕ} (accepted : roundsCall s memory input output .answer ≡ Accepted r) where
-  -- what the answer says by demand 2
-  abbrev pub solved : AcceptedAfter s memory input output r
-  solved = demand2-answered s memory input output .accepted r accepted
-
-  -- the wires' expressions, and what they are worked out under in the end
-  abbrev pub equations : List Expression
-  equations = solved .given .sheet .expressions
-
-  abbrev pub final : Environment
-  final = under (solved .given .sheet) (solved .given .inputs) (solved .given .memory) (solved .values)
-
-  -- each wire has the value of its expression
-  pub wire-holds : (w : ℕ) → w < length equations
-      → valueAt (solved .values) w ≡ value final false (expressionAt equations w) (cellsBefore equations w)
-  unfolding Solution
-  wire-holds w l =
-      ap (λ (xs : List Value). valueAt xs w) (sym (solved .least .solves))
-      ∙ round-at (solved .given .sheet) (solved .given .inputs) (solved .given .memory) (solved .values) w
-      ∙ value-of-wire final equations 0 w l
-      ∙ rw zero-add
-
   -- each wire that adds, subtracts or negates has an exact result, and its value is the nearest number
-  pub wire-stops : (w : ℕ) → w < length equations → Sums (expressionAt equations w)
-      → (z : ℤ) × Exact final false (cellsBefore equations w) (expressionAt equations w) z × Stops z (valueAt (solved .values) w)
+  pub wire-stops : (w : ℕ) → w < length (equations s memory input output accepted) → Sums (expressionAt (equations s memory input output accepted) w)
+      → (z : ℤ)
+      × Exact (final s memory input output accepted) false (cellsBefore (equations s memory input output accepted) w)
+      (expressionAt (equations s memory input output accepted) w) z
+      × Stops z (valueAt (solved s memory input output accepted .values) w)
   wire-stops w l sums =
-      let given = solved .given in
-      let sheet = given .sheet in
-      let valid = given-valid s memory input output given (solved .passes) in
-      let ends = finished sheet (given .inputs) (given .memory) in
-      let same : ends ≡ solved .values = solved .only ends (finished-solution sheet (given .inputs) (given .memory)) in
-      let full : Full (wireCount sheet) ends = rw same (solved .full) in
-      let wires : OnWires Has (sheet .wireTypes) (solved .values) =
-      rw same at (finished-has sheet (given .inputs) (given .memory) (valid .sheet) (valid .inputs) (valid .memory) full) in
-      let lasts = lasts-valid sheet (given .inputs) (given .memory) (valid .sheet) (valid .inputs) (valid .memory) in
-      let ((t, typed), cells) =
-      wire-typed (sheet .inputTypes) (sheet .wireTypes) (given .memory) 0 w (valid .sheet) (valid-from-start (valid .memory)) l in
-      let (z, exact) = exact-of (sheet .inputTypes) (sheet .wireTypes) final (valid .inputs) lasts wires sums false
-      (cellsBefore equations w) t typed (rw zero-add at cells) in
-      (z, exact, rw (wire-holds w l) (exact-stops exact))
+      let sheet = solved s memory input output accepted .given .sheet in
+      let types = final-typed s memory input output accepted in
+      let ((t, typed), cells) = equation-typed s memory input output accepted w l in
+      let (z, exact) = exact-of (sheet .inputTypes) (sheet .wireTypes) (final s memory input output accepted)
+      (types .inputs) (types .lasts) (types .wires) sums false (cellsBefore (sheet .expressions) w) t typed cells in
+      (z, exact, rw (wire-holds s memory input output accepted w l) (exact-stops exact))

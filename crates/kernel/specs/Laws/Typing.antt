@@ -10,13 +10,13 @@ use lib.IntN.{negℤ, _+ℤ_, _-ℤ_}
 use lib.ListN.{length, getElem?}
 use Rattle.numbers.specs.Laws.Nearest.{settled-fits}
 use Rattle.sheet.specs.Data.{ValueType, boolean, IsOf}
-use Rattle.sheet.specs.Expressions.{Expression, constant, wire, input, last, unary, binary, choose, reset, pre, fby, kept}
+use Rattle.sheet.specs.Expressions.{Expression, constant, wire, input, last, unary, binary, conditional, switch, pre, fby, kept}
 use Rattle.sheet.specs.Expressions.{Unary, negation, negative}
 use Rattle.sheet.specs.Expressions.{Binary, conjunction, disjunction, sum, difference, lessThan, equality}
-use Rattle.sheet.specs.Expressions.{Choice, conditional, present}
-use Rattle.sheet.specs.Expressions.{CellForm, preCell, fbyCell, cellForms, cellCount}
-use Rattle.sheet.specs.Typing.{done, _then_, unaryType, operandType, resultType, HasType, ValidCell, ValidCells, ValidRow}
-use Rattle.sheet.specs.Laws.Readings.{forms-length}
+use Rattle.sheet.specs.Expressions.{Alternatives, only, either}
+use Rattle.sheet.specs.Expressions.{CellForm, preCell, fbyCell, switchForms, cellForms, formsIn, cellCount, countIn}
+use Rattle.sheet.specs.Typing.{done, _then_, unaryType, operandType, resultType, HasType, AlternativesHaveType, ValidCell, ValidCells, ValidRow}
+use Rattle.sheet.specs.Laws.Readings.{forms-length, forms-in-length}
 use Rattle.sheet.specs.Laws.Typing.{own-type}
 use Rattle.sheet.specs.declared.Datum.{Datum}
 use Rattle.sheet.specs.declared.Cell.{Cell}
@@ -24,8 +24,9 @@ use Rattle.sheet.specs.declared.Cell.the-variants.{NotStarted, Started}
 use Rattle.kernel.specs.Values.{truth, amount, whenKnown, Has, has, Fits, unknown-fits, known-fits}
 use Rattle.kernel.specs.Order.{valueAt}
 use Rattle.kernel.specs.Operations.{applyUnary, applyBinary}
-use Rattle.kernel.specs.Instant.{Environment, inputAt, cellAt, heldOr, knownOr, chosen, value}
+use Rattle.kernel.specs.Instant.{Environment, inputAt, cellAt, heldOr, knownOr, stateOf, secondRuns, makesFresh, value, valueIn}
 use Rattle.sheet.specs.Laws.Lists.{never}
+use Rattle.kernel.specs.Laws.Switches.{picked}
 use Rattle.kernel.specs.declared.Value.{Value}
 use Rattle.kernel.specs.declared.Value.the-variants.{Known}
 
@@ -52,6 +53,14 @@ pub parts : (memory : List Cell) (e : Expression) (fs : List CellForm) (k : ℕ)
     → ValidFrom memory (cellForms e) k × ValidFrom memory fs (k + cellCount e)
 parts memory e fs k h = rw (forms-length e) at (append-valid memory (cellForms e) fs k h)
 
+-- those of a switch: of its conditions, and of its bodies
+pub switch-parts : (memory : List Cell) (own : List CellForm) (cs bs : Alternatives) (k : ℕ)
+    → ValidFrom memory (own ++ (formsIn cs ++ formsIn bs)) k
+    → ValidFrom memory (formsIn cs) (k + length own) × ValidFrom memory (formsIn bs) (k + length own + countIn cs)
+switch-parts memory own cs bs k h =
+    let inner = append-valid memory own (formsIn cs ++ formsIn bs) k h .1 in
+    rw (forms-in-length cs) at (append-valid memory (formsIn cs) (formsIn bs) (k + length own) inner)
+
 -- a valid memory is valid from its first cell on
 tail-valid : (memory : List Cell) (c : Cell) (fs : List CellForm) (k : ℕ) → ValidFrom memory fs k → ValidFrom (c ∷ memory) fs (suc k)
 unfolding ValidFrom
@@ -74,10 +83,6 @@ binary-type sum d e = settled-fits (amount d +ℤ amount e)
 binary-type difference d e = settled-fits (amount d -ℤ amount e)
 binary-type lessThan d e = tt
 binary-type equality d e = tt
-
-picked-type : (t : ValueType) (b : Bool) (d e : Datum) → IsOf t d → IsOf t e → IsOf t (cond b d e)
-picked-type t true d e p q = p
-picked-type t false d e p q = q
 
 held-type : (t : ValueType) (fresh : Bool) (d : Datum) (c : Cell) → IsOf t d → ValidCell (preCell d) c
     → IsOf t (heldOr d (cond fresh (Started d) c))
@@ -118,44 +123,52 @@ module _ (P : ValueType → Value → Type 0) (inherited : Inherited P)
     (onWires : OnWires P wireTypes (now .wires)) where
   open Inherited inherited using (datum, strict)
 
-  chosen-typed : {t : ValueType} (o : Choice) (b : Bool) {u v : Value} → P t u → P t v → P t (chosen o b u v)
-  chosen-typed {t} conditional b p q = strict p (λ x d. strict q (λ y e. datum (picked-type t b x y d e)))
-  chosen-typed present true p q = p
-  chosen-typed present false p q = q
-
   from-cell : {t : ValueType} (fresh : Bool) {v : Value} (c : Cell) → P t v → ValidCell (fbyCell t) c
       → P t (knownOr v (cond fresh NotStarted c))
   from-cell true c p q = p
   from-cell false NotStarted p q = p
   from-cell false (Started e) p q = datum q
 
-  pub value-typed : (t : ValueType) (e : Expression) (fresh : Bool) (k : ℕ)
-      → HasType inputTypes wireTypes t e → ValidFrom (now .memory) (cellForms e) k → P t (value now fresh e k)
-  unfolding value HasType cellForms ValidFrom OnWires
-  value-typed t (constant d) fresh k h m = datum h
-  value-typed t (wire w) fresh k h m = onWires w t h
-  value-typed t (input i) fresh k h m = datum (input-type onInputs i t h)
-  value-typed t (last w) fresh k h m = datum (input-type onLasts w t h)
-  value-typed t (unary o a) fresh k h m =
-      strict (value-typed (unaryType o) a fresh k (h .1) m) (λ x p.
-      datum (subst (λ u. IsOf u (applyUnary o x)) (h .0) (unary-type o x)))
-  value-typed t (binary o a b) fresh k h m =
-      let (m₁, m₂) = parts (now .memory) a (cellForms b) k m in
-      strict (value-typed (operandType o) a fresh k (h .1) m₁) (λ x p.
-      strict (value-typed (operandType o) b fresh (k + cellCount a) (h .2) m₂) (λ y q.
-      datum (subst (λ u. IsOf u (applyBinary o x y)) (h .0) (binary-type o x y))))
-  value-typed t (choose o c a b) fresh k h m =
-      let (m₁, m₂₃) = parts (now .memory) c (cellForms a ++ cellForms b) k m in
-      let (m₂, m₃) = parts (now .memory) a (cellForms b) (k + cellCount c) m₂₃ in
-      strict (value-typed boolean c fresh k (h .0) m₁) (λ x p.
-      chosen-typed o (truth x) (value-typed t a fresh (k + cellCount c) (h .1) m₂)
-      (value-typed t b fresh (k + cellCount c + cellCount a) (h .2) m₃))
-  value-typed t (reset c a) fresh k h m =
-      let (m₁, m₂) = parts (now .memory) c (cellForms a) k m in
-      strict (value-typed boolean c fresh k (h .0) m₁) (λ x p. value-typed t a (truth x || fresh) (k + cellCount c) (h .1) m₂)
-  value-typed t (pre d a) fresh k h m = datum (held-type t fresh d (cellAt (now .memory) k) (h .0) (m .1))
-  value-typed t (fby u a b) fresh k h m =
-      let left = (parts (now .memory) a (cellForms b) (suc k) (m .2)) .0 in
-      let cell = subst (λ x. ValidCell (fbyCell x) (cellAt (now .memory) k)) (h .0) (m .1) in
-      from-cell fresh (cellAt (now .memory) k) (value-typed t a fresh (suc k) (h .1) left) cell
-  value-typed t (kept u a) fresh k h m = value-typed t a fresh (suc k) (h .1) (m .2)
+  mutual
+    unfolding value HasType cellForms ValidFrom OnWires
+
+    pub value-typed : (t : ValueType) (e : Expression) (fresh : Bool) (k : ℕ)
+        → HasType inputTypes wireTypes t e → ValidFrom (now .memory) (cellForms e) k → P t (value now fresh e k)
+    value-typed t (constant d) fresh k h m = datum h
+    value-typed t (wire w) fresh k h m = onWires w t h
+    value-typed t (input i) fresh k h m = datum (input-type onInputs i t h)
+    value-typed t (last w) fresh k h m = datum (input-type onLasts w t h)
+    value-typed t (unary o a) fresh k h m =
+        strict (value-typed (unaryType o) a fresh k (h .1) m) (λ x p.
+        datum (subst (λ u. IsOf u (applyUnary o x)) (h .0) (unary-type o x)))
+    value-typed t (binary o a b) fresh k h m =
+        let (m₁, m₂) = parts (now .memory) a (cellForms b) k m in
+        strict (value-typed (operandType o) a fresh k (h .1) m₁) (λ x p.
+        strict (value-typed (operandType o) b fresh (k + cellCount a) (h .2) m₂) (λ y q.
+        datum (subst (λ u. IsOf u (applyBinary o x y)) (h .0) (binary-type o x y))))
+    value-typed t (conditional c a b) fresh k h m =
+        let (m₁, m₂₃) = parts (now .memory) c (cellForms a ++ cellForms b) k m in
+        let (m₂, m₃) = parts (now .memory) a (cellForms b) (k + cellCount c) m₂₃ in
+        strict (value-typed boolean c fresh k (h .0) m₁) (λ x p.
+        strict (value-typed t a fresh (k + cellCount c) (h .1) m₂) (λ y q.
+        strict (value-typed t b fresh (k + cellCount c + cellCount a) (h .2) m₃) (λ z r.
+        datum (picked (IsOf t) (truth x) r q))))
+    value-typed t (switch o cs bs) fresh k h m =
+        let first = k + length (switchForms o) in
+        let (m₁, m₂) = switch-parts (now .memory) (switchForms o) cs bs k m in
+        let state = stateOf now fresh o k in
+        strict (typed-in boolean cs state fresh first (h .0) m₁) (λ x p.
+        typed-in t bs (secondRuns o state (truth x)) (makesFresh o (truth x) || fresh) (first + countIn cs) (h .1) m₂)
+    value-typed t (pre d a) fresh k h m = datum (held-type t fresh d (cellAt (now .memory) k) (h .0) (m .1))
+    value-typed t (fby u a b) fresh k h m =
+        let left = (parts (now .memory) a (cellForms b) (suc k) (m .2)) .0 in
+        let cell = subst (λ x. ValidCell (fbyCell x) (cellAt (now .memory) k)) (h .0) (m .1) in
+        from-cell fresh (cellAt (now .memory) k) (value-typed t a fresh (suc k) (h .1) left) cell
+    value-typed t (kept u a) fresh k h m = value-typed t a fresh (suc k) (h .1) (m .2)
+
+    typed-in : (t : ValueType) (xs : Alternatives) (second fresh : Bool) (k : ℕ)
+        → AlternativesHaveType inputTypes wireTypes t xs → ValidFrom (now .memory) (formsIn xs) k → P t (valueIn now second fresh xs k)
+    typed-in t (only a) second fresh k h m = value-typed t a fresh k h m
+    typed-in t (either a b) second fresh k h m =
+        let (m₁, m₂) = parts (now .memory) a (cellForms b) k m in
+        picked (P t) second (value-typed t a fresh k (h .0) m₁) (value-typed t b fresh (k + cellCount a) (h .1) m₂)

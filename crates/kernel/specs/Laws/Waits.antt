@@ -4,19 +4,21 @@ use mathlib.Core.Path.{_≡_, refl}
 use Prim.Native.Nat.{ℕ, suc, _+_}
 use mathlib.Core.Bool.{Bool, true, false, _||_, cond, or-true}
 use mathlib.Core.List.{List, [], _∷_, _++_}
+use lib.ListN.{length}
 use Rattle.sheet.specs.Lists.{among, Every, none, _and_}
-use Rattle.sheet.specs.Reads.{wiresRead}
-use Rattle.sheet.specs.Expressions.{Expression, constant, wire, input, last, unary, binary, choose, reset, pre, fby, kept}
-use Rattle.sheet.specs.Expressions.{Choice, conditional, present, cellCount}
+use Rattle.sheet.specs.Reads.{wiresRead, wiresIn}
+use Rattle.sheet.specs.Expressions.{Expression, constant, wire, input, last, unary, binary, conditional, switch, pre, fby, kept}
+use Rattle.sheet.specs.Expressions.{Alternatives, only, either, Switch, present, reset, machine, switchForms, cellCount, countIn}
 use Rattle.sheet.specs.Laws.Lists.{never, every-append, every-join, every-holds, every-among, among-append, among-head, among-each}
 use Rattle.sheet.specs.declared.Datum.{Datum}
 use Rattle.sheet.specs.declared.Cell.{Cell}
 use Rattle.sheet.specs.declared.Cell.the-variants.{NotStarted, Started}
 use Rattle.kernel.specs.Values.{truth, whenKnown, IsKnown, known}
 use Rattle.kernel.specs.Order.{_⊑_, unknown, same, _⊑*_, valueAt}
-use Rattle.kernel.specs.Instant.{Environment, inputAt, cellAt, knownOr, chosen, value}
+use Rattle.kernel.specs.Instant.{Environment, inputAt, cellAt, knownOr, stateOf, secondRuns, makesFresh, value, valueIn}
 use Rattle.kernel.specs.Laws.Order.{not-known}
-use Rattle.kernel.specs.Waits.{onceKnown, armsAwaited, leftAwaited, wiresAwaited}
+use Rattle.kernel.specs.Laws.Switches.{picked}
+use Rattle.kernel.specs.Waits.{onceKnown, leftAwaited, wiresAwaited, awaitedIn}
 use Rattle.kernel.specs.declared.Value.{Value}
 use Rattle.kernel.specs.declared.Value.the-variants.{Unknown, Known}
 
@@ -44,36 +46,48 @@ module _ (R : Value → Value → List ℕ → List ℕ → Type 0) (carried : C
     (wires : (w : ℕ) → R (valueAt (s .wires) w) (valueAt (t .wires) w) (w ∷ []) (w ∷ [])) where
   open Carried carried using (sure, operand, strict, once)
 
-  taken : (b : Bool) {u v x y : Value} {us vs xs ys : List ℕ} → R u x us xs → R v y vs ys
-      → R (cond b u v) (cond b x y) (cond b us vs) (cond b xs ys)
-  taken true p q = p
-  taken false p q = q
+  both-picked : (second : Bool) {u v x y : Value} {us vs xs ys : List ℕ} → R u x us xs → R v y vs ys
+      → R (cond second v u) (cond second y x) (cond second vs us) (cond second ys xs)
+  both-picked true p q = q
+  both-picked false p q = p
 
-  choice : (o : Choice) {c d u v x y : Value} {cs ds us vs xs ys : List ℕ} → R c d cs ds → R u x us xs → R v y vs ys
-      → R (whenKnown c (λ z. chosen o (truth z) u v)) (whenKnown d (λ z. chosen o (truth z) x y))
-      (cs ++ armsAwaited o c us vs) (ds ++ armsAwaited o d xs ys)
-  choice conditional r p q = strict r (λ z. strict p (λ a. operand (λ b. cond (truth z) a b) q))
-  choice present r p q = once r (λ z. taken (truth z) p q)
+  same-state : (o : Switch) (fresh : Bool) (k : ℕ) → stateOf s fresh o k ≡ stateOf t fresh o k
+  same-state present fresh k = refl
+  same-state reset fresh k = refl
+  same-state machine fresh k = rw memory
 
   from-cell : (c : Cell) {u v : Value} {us vs : List ℕ} → R u v us vs → R (knownOr u c) (knownOr v c) (leftAwaited us c) (leftAwaited vs c)
   from-cell NotStarted p = p
   from-cell (Started d) p = sure d
 
-  each : (e : Expression) (fresh : Bool) (k : ℕ)
-      → R (value s fresh e k) (value t fresh e k) (wiresAwaited s fresh e k) (wiresAwaited t fresh e k)
-  unfolding value wiresAwaited
-  each (constant d) fresh k = sure d
-  each (wire w) fresh k = wires w
-  each (input i) fresh k = rw inputs (sure (inputAt (t .inputs) i))
-  each (last w) fresh k = rw lasts (sure _)
-  each (unary o a) fresh k = operand _ (each a fresh k)
-  each (binary o a b) fresh k = strict (each a fresh k) (λ x. operand _ (each b fresh (k + cellCount a)))
-  each (choose o c a b) fresh k =
-      choice o (each c fresh k) (each a fresh (k + cellCount c)) (each b fresh (k + cellCount c + cellCount a))
-  each (reset c a) fresh k = once (each c fresh k) (λ x. each a (truth x || fresh) (k + cellCount c))
-  each (pre d a) fresh k = rw memory (sure _)
-  each (fby x a b) fresh k = rw memory (from-cell (cond fresh NotStarted (cellAt (t .memory) k)) (each a fresh (suc k)))
-  each (kept x a) fresh k = each a fresh (suc k)
+  mutual
+    unfolding value wiresAwaited
+
+    each : (e : Expression) (fresh : Bool) (k : ℕ)
+        → R (value s fresh e k) (value t fresh e k) (wiresAwaited s fresh e k) (wiresAwaited t fresh e k)
+    each (constant d) fresh k = sure d
+    each (wire w) fresh k = wires w
+    each (input i) fresh k = rw inputs (sure (inputAt (t .inputs) i))
+    each (last w) fresh k = rw lasts (sure _)
+    each (unary o a) fresh k = operand _ (each a fresh k)
+    each (binary o a b) fresh k = strict (each a fresh k) (λ x. operand _ (each b fresh (k + cellCount a)))
+    each (conditional c a b) fresh k =
+        strict (each c fresh k) (λ z.
+        strict (each a fresh (k + cellCount c)) (λ x. operand (λ y. cond (truth z) x y) (each b fresh (k + cellCount c + cellCount a))))
+    each (switch o cs bs) fresh k =
+        let state = stateOf t fresh o k in
+        let first = k + length (switchForms o) in
+        rw (same-state o fresh k)
+        (once (each-in cs state fresh first) (λ x.
+        each-in bs (secondRuns o state (truth x)) (makesFresh o (truth x) || fresh) (first + countIn cs)))
+    each (pre d a) fresh k = rw memory (sure _)
+    each (fby x a b) fresh k = rw memory (from-cell (cond fresh NotStarted (cellAt (t .memory) k)) (each a fresh (suc k)))
+    each (kept x a) fresh k = each a fresh (suc k)
+
+    each-in : (xs : Alternatives) (second fresh : Bool) (k : ℕ)
+        → R (valueIn s second fresh xs k) (valueIn t second fresh xs k) (awaitedIn s second fresh xs k) (awaitedIn t second fresh xs k)
+    each-in (only a) second fresh k = each a fresh k
+    each-in (either a b) second fresh k = both-picked second (each a fresh k) (each b fresh (k + cellCount a))
 
 -- Under the values of one environment.
 module _ (now : Environment) where
@@ -149,42 +163,44 @@ module _ (now : Environment) where
     once-within Unknown h = none
     once-within (Known d) h = h d
 
-    taken-within : (t : Bool) {us vs : List ℕ} → Every P us → Every P vs → Every P (cond t us vs)
-    taken-within true p q = p
-    taken-within false p q = q
-
-    arms-within : (o : Choice) (v : Value) {us vs : List ℕ} → Every P us → Every P vs → Every P (armsAwaited o v us vs)
-    arms-within conditional v p q = every-join p q
-    arms-within present v p q = once-within v (λ t. taken-within (truth t) p q)
-
     left-within : (c : Cell) {ws : List ℕ} → Every P ws → Every P (leftAwaited ws c)
     left-within NotStarted p = p
     left-within (Started d) p = none
 
-    awaited-within : (e : Expression) (fresh : Bool) (k : ℕ) → Every P (wiresRead e) → Every P (wiresAwaited now fresh e k)
-    unfolding wiresRead wiresAwaited
-    awaited-within (constant d) fresh k h = none
-    awaited-within (wire w) fresh k h = h
-    awaited-within (input i) fresh k h = none
-    awaited-within (last w) fresh k h = none
-    awaited-within (unary o a) fresh k h = awaited-within a fresh k h
-    awaited-within (binary o a b) fresh k h =
-        let (p, q) = every-append (wiresRead a) (wiresRead b) h in
-        every-join (awaited-within a fresh k p) (awaited-within b fresh (k + cellCount a) q)
-    awaited-within (choose o c a b) fresh k h =
-        let (p, rest) = every-append (wiresRead c) (wiresRead a ++ wiresRead b) h in
-        let (q, r) = every-append (wiresRead a) (wiresRead b) rest in
-        every-join (awaited-within c fresh k p)
-        (arms-within o (value now fresh c k) (awaited-within a fresh (k + cellCount c) q)
-        (awaited-within b fresh (k + cellCount c + cellCount a) r))
-    awaited-within (reset c a) fresh k h =
-        let (p, q) = every-append (wiresRead c) (wiresRead a) h in
-        every-join (awaited-within c fresh k p)
-        (once-within (value now fresh c k) (λ t. awaited-within a (truth t || fresh) (k + cellCount c) q))
-    awaited-within (pre d a) fresh k h = none
-    awaited-within (fby t a b) fresh k h =
-        left-within (cond fresh NotStarted (cellAt (now .memory) k)) (awaited-within a fresh (suc k) h)
-    awaited-within (kept t a) fresh k h = awaited-within a fresh (suc k) h
+    mutual
+      unfolding wiresRead wiresAwaited
+
+      awaited-within : (e : Expression) (fresh : Bool) (k : ℕ) → Every P (wiresRead e) → Every P (wiresAwaited now fresh e k)
+      awaited-within (constant d) fresh k h = none
+      awaited-within (wire w) fresh k h = h
+      awaited-within (input i) fresh k h = none
+      awaited-within (last w) fresh k h = none
+      awaited-within (unary o a) fresh k h = awaited-within a fresh k h
+      awaited-within (binary o a b) fresh k h =
+          let (p, q) = every-append (wiresRead a) (wiresRead b) h in
+          every-join (awaited-within a fresh k p) (awaited-within b fresh (k + cellCount a) q)
+      awaited-within (conditional c a b) fresh k h =
+          let (p, rest) = every-append (wiresRead c) (wiresRead a ++ wiresRead b) h in
+          let (q, r) = every-append (wiresRead a) (wiresRead b) rest in
+          every-join (awaited-within c fresh k p)
+          (every-join (awaited-within a fresh (k + cellCount c) q) (awaited-within b fresh (k + cellCount c + cellCount a) r))
+      awaited-within (switch o cs bs) fresh k h =
+          let (p, q) = every-append (wiresIn cs) (wiresIn bs) h in
+          let state = stateOf now fresh o k in
+          let first = k + length (switchForms o) in
+          every-join (within-in cs state fresh first p)
+          (once-within (valueIn now state fresh cs first) (λ t.
+          within-in bs (secondRuns o state (truth t)) (makesFresh o (truth t) || fresh) (first + countIn cs) q))
+      awaited-within (pre d a) fresh k h = none
+      awaited-within (fby t a b) fresh k h =
+          left-within (cond fresh NotStarted (cellAt (now .memory) k)) (awaited-within a fresh (suc k) h)
+      awaited-within (kept t a) fresh k h = awaited-within a fresh (suc k) h
+
+      within-in : (xs : Alternatives) (second fresh : Bool) (k : ℕ) → Every P (wiresIn xs) → Every P (awaitedIn now second fresh xs k)
+      within-in (only a) second fresh k h = awaited-within a fresh k h
+      within-in (either a b) second fresh k h =
+          let (p, q) = every-append (wiresRead a) (wiresRead b) h in
+          picked (Every P) second (awaited-within a fresh k p) (awaited-within b fresh (k + cellCount a) q)
 
   -- all that is waited for is read within the instant
   pub awaited-read : (e : Expression) (fresh : Bool) (k : ℕ) → Every (λ w. among w (wiresRead e) ≡ true) (wiresAwaited now fresh e k)

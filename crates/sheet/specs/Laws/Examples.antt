@@ -1,4 +1,4 @@
--- The example sheets' bytes say what they should, and those that misuse kept wires are refused.
+-- The example sheets' bytes say what they should, and those that misuse kept wires or machines are refused.
 use mathlib.Core.Path.{_≡_, refl}
 use mathlib.Core.List.{[], _∷_, map}
 use Rattle.sheet.specs.Kinds.{meaningOf, operandsOf}
@@ -16,7 +16,8 @@ examples-read = (refl, refl)
 
 pub misused-refused : map (λ s. packedChecked (checkOf s)) misusedBytes
     ≡ packedRefusal TypeByte 2 ∷ packedRefusal TypeByte 1 ∷ packedRefusal Kind 5 ∷ packedRefusal Body 5 ∷ packedRefusal Body 5
-    ∷ packedRefusal TypeAsked 6 ∷ packedRefusal Cut 6 ∷ packedRefusal CellLimit 68 ∷ []
+    ∷ packedRefusal TypeAsked 6 ∷ packedRefusal Cut 6 ∷ packedRefusal CellLimit 68
+    ∷ packedRefusal CellLimit 68 ∷ packedRefusal TypeAsked 10 ∷ packedRefusal Cut 12 ∷ []
 unfolding meaningOf operandsOf readEach namesOf bodyFrom ownOf readExpression fieldOf bytesOf sectionOf
     keptCount readWires outputsFrom wiresFrom readSheet
 misused-refused = refl

@@ -12,6 +12,10 @@ use Rattle.sheet.specs.Lists.{among, allAmong, Every, none, _and_}
 pub never : {A : Type 0} → _≡_ {A = ℕ} 0 1 → A
 never e = absurd (omega arith)
 
+-- a test does not come out both ways
+pub clash : {A : Type 0} {b : Bool} → b ≡ true → b ≡ false → A
+clash t f = never (cc)
+
 pub both : (a b : Bool) → (a && b) ≡ true → (a ≡ true) × (b ≡ true)
 both true b e = (refl, e)
 both false b e = (e, cc)

@@ -13,14 +13,15 @@ use borrow.Author.Tests.{eq-eqb, not-false}
 use mir.Facts.{fits-ofZ, toZ-ofZ}
 use Rattle.numbers.specs.Words.{wordAt, wordBytes}
 use Rattle.sheet.specs.Data.{ValueType, boolean, number, typeOf, IsOf, standsFor, datumOf, wordOf}
-use Rattle.sheet.specs.Expressions.{Expression, constant, wire, input, last, unary, binary, choose, reset, pre, fby, kept}
-use Rattle.sheet.specs.Expressions.{CellForm, fbyCell, cellForms}
+use Rattle.sheet.specs.Expressions.{Expression, constant, wire, input, last, unary, binary, conditional, switch, pre, fby, kept}
+use Rattle.sheet.specs.Expressions.{Alternatives, only, either, Switch, present, reset, machine}
+use Rattle.sheet.specs.Expressions.{CellForm, fbyCell, switchForms, cellForms, formsIn}
 use Rattle.sheet.specs.Outcomes.{result}
 use Rattle.sheet.specs.Sheets.{Sheet, formsOf, sheetForms}
 use Rattle.sheet.specs.Memory.{cellBytes, memoryBytes, markAt, cellWordAt, readCell}
 use Rattle.sheet.specs.Memory.{validCell, invalidAt, cellsFrom, memoryOf, startMemory}
 use Rattle.sheet.specs.Rows.{rowBytes, wrongAt, dataFrom, inputsOf}
-use Rattle.sheet.specs.Typing.{Pairwise, done, _then_, unaryType, operandType, HasType, HaveTypes, WellTyped}
+use Rattle.sheet.specs.Typing.{Pairwise, done, _then_, unaryType, operandType, HasType, AlternativesHaveType, HaveTypes, WellTyped}
 use Rattle.sheet.specs.Typing.{ValidCell, ValidCells, ValidMemory, ValidRow}
 use Rattle.sheet.specs.Laws.Lowest.{none-lowest}
 use Rattle.sheet.specs.Laws.Outcomes.{same-result, length-passed, any-passed}
@@ -204,25 +205,38 @@ both-start : (forms more : List CellForm) → StartValid forms → StartValid mo
 unfolding startMemory
 both-start forms more p q = rw map-append (pairwise-append p q)
 
-pub start-valid : (inputTypes wireTypes : List ValueType) (t : ValueType) (e : Expression) → HasType inputTypes wireTypes t e
-    → ValidCells (cellForms e) (startMemory (cellForms e))
-unfolding HasType cellForms startMemory
-start-valid is ws t (constant d) h = done
-start-valid is ws t (wire w) h = done
-start-valid is ws t (input i) h = done
-start-valid is ws t (last w) h = done
-start-valid is ws t (unary o a) h = start-valid is ws (unaryType o) a (h .1)
-start-valid is ws t (binary o a b) h =
-    both-start (cellForms a) (cellForms b) (start-valid is ws (operandType o) a (h .1)) (start-valid is ws (operandType o) b (h .2))
-start-valid is ws t (choose o c a b) h =
-    both-start (cellForms c) (cellForms a ++ cellForms b) (start-valid is ws boolean c (h .0))
-    (both-start (cellForms a) (cellForms b) (start-valid is ws t a (h .1)) (start-valid is ws t b (h .2)))
-start-valid is ws t (reset c a) h =
-    both-start (cellForms c) (cellForms a) (start-valid is ws boolean c (h .0)) (start-valid is ws t a (h .1))
-start-valid is ws t (pre d a) h = own-is t d (h .0) then start-valid is ws t a (h .1)
-start-valid is ws t (fby u a b) h =
-    refl then both-start (cellForms a) (cellForms b) (start-valid is ws t a (h .1)) (start-valid is ws t b (h .2))
-start-valid is ws t (kept u a) h = datum-is u 0 then start-valid is ws t a (h .1)
+switch-start : (o : Switch) → StartValid (switchForms o)
+unfolding startMemory
+switch-start present = done
+switch-start reset = done
+switch-start machine = tt then done
+
+module _ (is ws : List ValueType) where
+  mutual
+    unfolding HasType cellForms startMemory
+
+    pub start-valid : (t : ValueType) (e : Expression) → HasType is ws t e → ValidCells (cellForms e) (startMemory (cellForms e))
+    start-valid t (constant d) h = done
+    start-valid t (wire w) h = done
+    start-valid t (input i) h = done
+    start-valid t (last w) h = done
+    start-valid t (unary o a) h = start-valid (unaryType o) a (h .1)
+    start-valid t (binary o a b) h =
+        both-start (cellForms a) (cellForms b) (start-valid (operandType o) a (h .1)) (start-valid (operandType o) b (h .2))
+    start-valid t (conditional c a b) h =
+        both-start (cellForms c) (cellForms a ++ cellForms b) (start-valid boolean c (h .0))
+        (both-start (cellForms a) (cellForms b) (start-valid t a (h .1)) (start-valid t b (h .2)))
+    start-valid t (switch o cs bs) h =
+        both-start (switchForms o) (formsIn cs ++ formsIn bs) (switch-start o)
+        (both-start (formsIn cs) (formsIn bs) (start-in boolean cs (h .0)) (start-in t bs (h .1)))
+    start-valid t (pre d a) h = own-is t d (h .0) then start-valid t a (h .1)
+    start-valid t (fby u a b) h =
+        refl then both-start (cellForms a) (cellForms b) (start-valid t a (h .1)) (start-valid t b (h .2))
+    start-valid t (kept u a) h = datum-is u 0 then start-valid t a (h .1)
+
+    start-in : (t : ValueType) (xs : Alternatives) → AlternativesHaveType is ws t xs → StartValid (formsIn xs)
+    start-in t (only a) h = start-valid t a h
+    start-in t (either a b) h = both-start (cellForms a) (cellForms b) (start-valid t a (h .0)) (start-valid t b (h .1))
 
 pub starts-valid : (inputTypes wireTypes : List ValueType) {ts : List ValueType} {es : List Expression}
     → HaveTypes inputTypes wireTypes ts es → ValidCells (formsOf es) (startMemory (formsOf es))

@@ -2,16 +2,16 @@
 use Prim.Native.Nat.{ℕ, zero, suc, _+_, _-_, _≤_, _<_}
 use mathlib.Core.Path.{_≡_, refl, sym, ap, _∙_}
 use mathlib.Core.Bool.{Bool, true, false, cond}
-use mathlib.Core.List.{List, [], _∷_, _++_, append-nil}
+use mathlib.Core.List.{List, [], _∷_, _++_, append-nil, append-assoc}
 use native.Mathlib.Omega.{arith}
 use native.Mathlib.Nat.{zero-add}
 use lib.ListN.{length, getD, length-append}
 use lib.Dec.{leb, ltb, eqb}
 use borrow.Author.Tests.{leb-false, ltb-false, eqb-true, eqb-false}
 use Rattle.sheet.specs.Data.{ValueType, typeOfByte, datumOf}
-use Rattle.sheet.specs.Expressions.{Expression, constant, wire, input, last, unary, binary, choose, reset, pre, fby, kept}
-use Rattle.sheet.specs.Expressions.{CellForm, preCell, fbyCell, cellForms, cellCount}
-use Rattle.sheet.specs.Kinds.{bodyOf, cellsOf, countOf, operand, operandsOf, limitOf, namesUnkept, foundOf, meaningOf, kindCount}
+use Rattle.sheet.specs.Expressions.{Expression, constant, wire, input, last, unary, binary, conditional, switch, pre, fby, kept}
+use Rattle.sheet.specs.Expressions.{Alternatives, only, either, preCell, fbyCell, stateCell, cellForms, formsIn, cellCount, countIn}
+use Rattle.sheet.specs.Kinds.{bodyOf, cellsOf, countOf, ownForms, operand, operandsOf, limitOf, namesUnkept, foundOf, meaningOf, kindCount}
 use Rattle.sheet.specs.Readings.{Reading, refused, got, andThen, onRead, readEach, namedAt, bodyAt}
 use Rattle.sheet.specs.Readings.{namesOf, bodyFrom, ownOf, readExpression}
 use Rattle.sheet.specs.Sheets.{formsOf}
@@ -176,12 +176,7 @@ pub operands-counted : (t k : ℕ) → k < kindCount → length (operandsOf k t)
 unfolding operandsOf
 operands-counted t = every-kind (λ k. length (operandsOf k t) ≡ countOf k)
     (refl ▸ refl ▸ refl ▸ refl ▸ refl ▸ refl ▸ refl ▸ refl ▸ refl
-    ▸ refl ▸ refl ▸ refl ▸ refl ▸ refl ▸ refl ▸ refl ▸ refl ▸ refl ▸ refl ▸ end)
-
--- the form of the cell that an expression itself owns, by its kind: a pre's with its constant, or an fby's
-abbrev pub ownForms : ℕ → ValueType → ℕ → List CellForm
-ownForms k type body =
-    cond (eqb (cellsOf k) 0) [] (cond (eqb (bodyOf k) 0) (fbyCell type ∷ []) (preCell (datumOf type body) ∷ []))
+    ▸ refl ▸ refl ▸ refl ▸ refl ▸ refl ▸ refl ▸ refl ▸ refl ▸ refl ▸ refl ▸ refl ▸ end)
 
 forms-of-none : (os : List Expression) → length os ≡ 0 → [] ≡ formsOf os
 unfolding formsOf
@@ -205,6 +200,15 @@ unfolding formsOf
 forms-of-three [] e = absurd (omega arith)
 forms-of-three (a ∷ os) e = ap (λ fs. cellForms a ++ fs) (forms-of-two os (omega arith))
 
+-- those of two pairs of operands, as a machine has them
+forms-of-pairs : (os : List Expression) → length os ≡ 4
+    → (cellForms (operand os 0) ++ cellForms (operand os 1)) ++ (cellForms (operand os 2) ++ cellForms (operand os 3)) ≡ formsOf os
+unfolding formsOf
+forms-of-pairs [] e = absurd (omega arith)
+forms-of-pairs (a ∷ []) e = absurd (omega arith)
+forms-of-pairs (a ∷ b ∷ os) e =
+    append-assoc (cellForms a) (cellForms b) _ ∙ ap (λ fs. cellForms a ++ (cellForms b ++ fs)) (forms-of-two os (omega arith))
+
 abbrev FormsOfKind : ℕ → Type 0
 FormsOfKind k = (type : ValueType) (body : ℕ) (os : List Expression) → length os ≡ countOf k
     → cellForms (meaningOf k type body os) ≡ ownForms k type body ++ formsOf os
@@ -213,7 +217,7 @@ pub forms-of-kind : (k : ℕ) → k < kindCount → FormsOfKind k
 unfolding meaningOf cellForms
 forms-of-kind = every-kind FormsOfKind
     (none ▸ none ▸ none ▸ none ▸ one ▸ one ▸ two ▸ two ▸ two ▸ two ▸ two ▸ two
-    ▸ three ▸ three ▸ two ▸ of-pre ▸ of-pre ▸ of-fby ▸ none ▸ end)
+    ▸ three ▸ three ▸ two ▸ of-pre ▸ of-pre ▸ of-fby ▸ none ▸ of-machine ▸ end)
   where
     none : ValueType → ℕ → (os : List Expression) → length os ≡ 0 → [] ≡ formsOf os
     none t b = forms-of-none
@@ -236,6 +240,11 @@ forms-of-kind = every-kind FormsOfKind
         → fbyCell t ∷ (cellForms (operand os 0) ++ cellForms (operand os 1)) ≡ fbyCell t ∷ formsOf os
     of-fby t b os e = ap (λ fs. fbyCell t ∷ fs) (forms-of-two os e)
 
+    of-machine : (t : ValueType) → ℕ → (os : List Expression) → length os ≡ 4
+        → stateCell ∷ ((cellForms (operand os 0) ++ cellForms (operand os 1)) ++ (cellForms (operand os 2) ++ cellForms (operand os 3)))
+        ≡ stateCell ∷ formsOf os
+    of-machine t b os e = ap (λ fs. stateCell ∷ fs) (forms-of-pairs os e)
+
 -- where t is asked of a kind and found, the cell that it owns starts as its kind alone says
 pub own-starts : (inputs wires : List ℕ) (t n b k : ℕ) → k < kindCount → foundOf inputs wires t k n ≡ t
     → startMemory (ownForms k (typeOfByte t) b) ≡ cond (eqb (cellsOf k) 0) [] (ownCell k b ∷ [])
@@ -243,7 +252,7 @@ unfolding startMemory
 own-starts inputs wires t n b = every-kind (λ k. foundOf inputs wires t k n ≡ t
     → startMemory (ownForms k (typeOfByte t) b) ≡ cond (eqb (cellsOf k) 0) [] (ownCell k b ∷ []))
     (same ▸ same ▸ same ▸ same ▸ same ▸ same ▸ same ▸ same ▸ same ▸ same ▸ same ▸ same ▸ same ▸ same ▸ same
-    ▸ (λ e. rw (← e)) ▸ (λ e. rw (← e)) ▸ same ▸ same ▸ end)
+    ▸ (λ e. rw (← e)) ▸ (λ e. rw (← e)) ▸ same ▸ same ▸ same ▸ end)
   where
     same : {A : Type 0} {cells : List Cell} → A → cells ≡ cells
     same e = refl
@@ -251,21 +260,27 @@ own-starts inputs wires t n b = every-kind (λ k. foundOf inputs wires t k n ≡
 pub own-forms-length : (type : ValueType) (body k : ℕ) → k < kindCount → length (ownForms k type body) ≡ cellsOf k
 own-forms-length type body = every-kind (λ k. length (ownForms k type body) ≡ cellsOf k)
     (refl ▸ refl ▸ refl ▸ refl ▸ refl ▸ refl ▸ refl ▸ refl ▸ refl
-    ▸ refl ▸ refl ▸ refl ▸ refl ▸ refl ▸ refl ▸ refl ▸ refl ▸ refl ▸ refl ▸ end)
+    ▸ refl ▸ refl ▸ refl ▸ refl ▸ refl ▸ refl ▸ refl ▸ refl ▸ refl ▸ refl ▸ refl ▸ end)
 
-pub forms-length : (e : Expression) → length (cellForms e) ≡ cellCount e
-unfolding cellForms cellCount
-forms-length (constant d) = refl
-forms-length (wire w) = refl
-forms-length (input i) = refl
-forms-length (last w) = refl
-forms-length (unary o a) = forms-length a
-forms-length (binary o a b) = simp (length-append, forms-length a, forms-length b)
-forms-length (choose o c a b) = simp (length-append, forms-length c, forms-length a, forms-length b)
-forms-length (reset c a) = simp (length-append, forms-length c, forms-length a)
-forms-length (pre d a) = ap suc (forms-length a)
-forms-length (fby t a b) = simp (length-append, forms-length a, forms-length b)
-forms-length (kept t a) = ap suc (forms-length a)
+mutual
+  unfolding cellForms cellCount
+
+  pub forms-length : (e : Expression) → length (cellForms e) ≡ cellCount e
+  forms-length (constant d) = refl
+  forms-length (wire w) = refl
+  forms-length (input i) = refl
+  forms-length (last w) = refl
+  forms-length (unary o a) = forms-length a
+  forms-length (binary o a b) = simp (length-append, forms-length a, forms-length b)
+  forms-length (conditional c a b) = simp (length-append, forms-length c, forms-length a, forms-length b)
+  forms-length (switch o cs bs) = simp (length-append, forms-in-length cs, forms-in-length bs)
+  forms-length (pre d a) = ap suc (forms-length a)
+  forms-length (fby t a b) = simp (length-append, forms-length a, forms-length b)
+  forms-length (kept t a) = ap suc (forms-length a)
+
+  pub forms-in-length : (xs : Alternatives) → length (formsIn xs) ≡ countIn xs
+  forms-in-length (only a) = forms-length a
+  forms-in-length (either a b) = simp (length-append, forms-length a, forms-length b)
 
 -- where an expression from `at` on ends, and the cells that were counted behind it
 pub record ExpressionExtent (s : List ℕ) (at c : ℕ) (e : Expression) (n k : ℕ) : Type 0 where

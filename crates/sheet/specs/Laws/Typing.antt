@@ -66,6 +66,10 @@ module _ (inputs wires : List ℕ) where
       → Typed t (operand os 0) × Typed u (operand os 1) × Typed v (operand os 2)
   of-three (p then q then r then done) = (p, q, r)
 
+  of-four : {t u v w : ValueType} {os : List Expression} → AllTyped (t ∷ u ∷ v ∷ w ∷ []) os
+      → (Typed t (operand os 0) × Typed u (operand os 1)) × (Typed v (operand os 2) × Typed w (operand os 3))
+  of-four (p then q then r then s then done) = ((p, q), (r, s))
+
   -- where the body names what it may, the type is the one asked, and the operands have the types asked of them
   abbrev TypedKind : ℕ → Type 0
   TypedKind k = (t word named : ℕ) (os : List Expression) → named < limitOf inputs wires k → foundOf inputs wires t k named ≡ t
@@ -88,12 +92,13 @@ module _ (inputs wires : List ℕ) where
       ▸ (λ t w n os l e h. (ap typeOfByte e, of-two h .0, of-two h .1))
       ▸ (λ t w n os l e h. (ap typeOfByte e, of-two h .0, of-two h .1))
       ▸ (λ t w n os l e h. of-three h)
-      ▸ (λ t w n os l e h. of-three h)
+      ▸ (λ t w n os l e h. (of-three h .0, (of-three h .1, of-three h .2)))
       ▸ (λ t w n os l e h. of-two h)
       ▸ (λ t w n os l e h. (datum-is (typeOfByte t) n, subst (λ u. Typed (typeOfByte u) (operand os 0)) e (of-one h)))
       ▸ (λ t w n os l e h. (datum-is (typeOfByte t) w, subst (λ u. Typed (typeOfByte u) (operand os 0)) e (of-one h)))
       ▸ (λ t w n os l e h. (refl, of-two h .0, of-two h .1))
       ▸ (λ t w n os l e h. type-of-named plainByte wires n l e)
+      ▸ (λ t w n os l e h. of-four h)
       ▸ end)
 
   run-typed-by : (typeIn : ℕ → ValueType) (read : ℕ → ℕ → ℕ → Reading Expression)

@@ -124,7 +124,7 @@ module _ (inputs wires s : List ℕ) where
       ap isKeptWire (v .tree)
       ∙ every-kind (λ k. (u : ValueType) (b : ℕ) (os : List Expression) → isKeptWire (meaningOf k u b os) ≡ false)
       (none ▸ none ▸ none ▸ none ▸ none ▸ none ▸ none ▸ none ▸ none ▸ none
-      ▸ none ▸ none ▸ none ▸ none ▸ none ▸ none ▸ none ▸ none ▸ none ▸ end)
+      ▸ none ▸ none ▸ none ▸ none ▸ none ▸ none ▸ none ▸ none ▸ none ▸ none ▸ end)
       (getD s at 0) (v .good .kind) (typeOfByte t) (bodyAt s at) (v .operands)
     where
       none : ValueType → ℕ → List Expression → false ≡ false

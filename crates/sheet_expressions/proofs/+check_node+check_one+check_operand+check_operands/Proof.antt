@@ -4,12 +4,13 @@
 use Prim.Native.Nat.{ℕ, _+_, _*_, _-_, _<_, _≤_}
 use mathlib.Core.Path.{_≡_, refl, sym, _∙_}
 use mathlib.Core.List.{List}
+use mathlib.Core.Logic.{⊎-elim}
 use native.Mathlib.Omega.{arith}
 use lib.ListN.{length, getD, take, drop, drop-of-length-le}
 use borrow.Author.Needs.{needs}
 use borrow.Author.Tests.{leb-false}
 use Rattle.sheet.specs.Expressions.{Expression}
-use Rattle.sheet.specs.Kinds.{countOf, operandsOf}
+use Rattle.sheet.specs.Kinds.{kindCount, countOf, operandsOf}
 use Rattle.sheet.specs.Reads.{allRead}
 use Rattle.sheet.specs.Readings.{got, erased, readEach, ownOf, readExpression}
 use Rattle.sheet.specs.Sheets.{formsOf}
@@ -18,10 +19,10 @@ use Rattle.sheet.specs.declared.Read.the-variants.{Got}
 use Rattle.sheet_names.specs.Naming.{aheadIn}
 use Rattle.sheet_own.specs.Own.{Lookup, thenType}
 use Rattle.sheet_own.proofs.Nodes.{owner-cells}
-use Rattle.sheet_expressions.proofs.Steps.{each-good, each-refused, own-missing, own-deep, own-passed}
+use Rattle.sheet_expressions.proofs.Steps.{each-good, each-refused, own-missing, own-unknown, own-deep, own-passed}
 use Rattle.sheet_expressions.proofs.Steps.{type-wrong, type-right}
 use Rattle.sheet_expressions.proofs.Noting.{refused-checks, own-stops, extent, Left, left-step, left-none, whole-checks}
-use Rattle.sheet_expressions.proofs.Noting.{leaf-bare, bare-checks}
+use Rattle.sheet_expressions.proofs.Noting.{leaf-bare, bare-checks, last-checks}
 use borrow.Fn.Kinds.{In}
 use borrow.Fn.PlainCycle.{Measures, is, falls, and}
 use Rattle.sheet_expressions.proofs.check_one.Reads as check-one
@@ -43,7 +44,7 @@ use Rattle.sheet.proofs.kinds.operands.Reads as operands-reads
 use Rattle.sheet.proofs.kinds.read_operands.Reads as read-operands-reads
 use Rattle.sheet_own.proofs.check_own.Reads as check-own-reads
 use Rattle.sheet_own.proofs.check_leaf.Reads as check-leaf-reads
-use Rattle.sheet_expressions.proofs.check_above.Reads as check-above-reads
+use Rattle.sheet_own.proofs.check_last.Reads as check-last-reads
 use Rattle.sheet_names.proofs.ahead.Reads as ahead-reads
 use Rattle.sheet_expressions.proofs.either.Reads as either-reads
 use Rattle.sheet_own.proofs.note_own.Reads as note-own-reads
@@ -106,8 +107,8 @@ abbrev check-one-calls : ℕ → check-one-lts.Claims
 check-one-calls t = (
   refused-reads.Asked,
   refused-reads.Learnt,
-  check-above-reads.Asked,
-  check-above-reads.Learnt,
+  check-last-reads.Asked,
+  check-last-reads.Learnt,
   check-leaf-reads.Asked,
   check-leaf-reads.Learnt,
   check-node-below t,
@@ -183,53 +184,80 @@ module _ (t : ℕ) where
   read-kind : check-one-lts.Need-index-1-kind (check-one-calls t) (check-one-at t) check-one.Post
   read-kind c = omega arith
 
-  above-requires : check-one-lts.Need-check-above-requires (check-one-calls t) (check-one-at t) check-one.Post
-  above-requires c κs =
-      let p = c .before .before .before .pre .1 in (p .0, c .before .before .if1 .left, c .if2 .taken, p .1, p .2)
+  unknown-requires : check-one-lts.Need-refused-requires-2 (check-one-calls t) (check-one-at t) check-one.Post
+  unknown-requires c κs = search needs
 
-  above : check-one-lts.Need-returns-2 (check-one-calls t) (check-one-at t) check-one.Post
-  above c = λ l. c .check-above .ensures l _ _ _
+  unknown : check-one-lts.Need-returns-2 (check-one-calls t) (check-one-at t) check-one.Post
+  unknown c = λ l.
+      let a = c .before .before .before .before .before .args in
+      own-stops (l .inputs) (l .wires) (a .sheet .now .now) (a .level) (a .asked) (a .at) (a .count) (c .refused2 .ensures)
+      (own-unknown (l .inputs) (l .wires) (a .sheet .now .now) (a .asked) (a .at) (a .count) (a .level)
+      (c .before .before .before .before .if1 .left) (c .before .if3 .taken))
 
-  deep-requires : check-one-lts.Need-refused-requires-2 (check-one-calls t) (check-one-at t) check-one.Post
+  above-deep-requires : check-one-lts.Need-refused-requires-3 (check-one-calls t) (check-one-at t) check-one.Post
+  above-deep-requires c κs = search needs
+
+  above-deep : check-one-lts.Need-returns-3 (check-one-calls t) (check-one-at t) check-one.Post
+  above-deep c = λ l.
+      let a = c .before .before .before .before .before .before .args in
+      own-stops (l .inputs) (l .wires) (a .sheet .now .now) (a .level) (a .asked) (a .at) (a .count) (c .refused3 .ensures)
+      (own-deep (l .inputs) (l .wires) (a .sheet .now .now) (a .asked) (a .at) (a .count) (a .level)
+      (c .before .before .before .before .before .if1 .left) (c .before .before .if3 .left) (c .before .if4 .taken))
+
+  last-requires : check-one-lts.Need-check-last-requires (check-one-calls t) (check-one-at t) check-one.Post
+  last-requires c κs =
+      let p = c .before .before .before .before .before .before .before .pre .1 in
+      (p .0, c .before .before .before .before .before .before .if1 .left, c .before .if5 .taken, p .1, p .2)
+
+  last : check-one-lts.Need-returns-4 (check-one-calls t) (check-one-at t) check-one.Post
+  last c = λ l.
+      let a = c .before .before .before .before .before .before .before .before .args in
+      last-checks (l .inputs) (l .wires) (a .sheet .now .now) (a .level) (a .asked) (a .at) (a .count)
+      (omega (arith, c .before .before .before .if4 .left)) (c .before .before .before .before .before .before .before .if1 .left)
+      (c .before .before .if5 .taken) (c .check-last .ensures l)
+
+  -- a kind that goes on behind these tests is one of the table, and not 18
+  told : (c : check-one-lts.Joined2 (check-one-calls t) (check-one-at t) check-one.Post)
+      → let a = c .before .before .before .args in
+      (getD (a .sheet .now .now) (a .at) 0 < kindCount) × (getD (a .sheet .now .now) (a .at) 0 ≡ 18 → ⊥)
+  told c = ⊎-elim (λ above. (above .1 .left, above .3 .left)) (λ below. (omega (arith, below .left), λ e. omega (arith, below .left)))
+      (c .if2 .came)
+
+  deep-requires : check-one-lts.Need-refused-requires-4 (check-one-calls t) (check-one-at t) check-one.Post
   deep-requires c κs = search needs
 
-  deep : check-one-lts.Need-returns-3 (check-one-calls t) (check-one-at t) check-one.Post
+  deep : check-one-lts.Need-returns-5 (check-one-calls t) (check-one-at t) check-one.Post
   deep c = λ l.
-      let start = c .before .before .before .before .before in
-      let a = start .args in
-      own-stops (l .inputs) (l .wires) (a .sheet .now .now) (a .level) (a .asked) (a .at) (a .count) (c .refused2 .ensures)
+      let a = c .before .before .before .before .before .args in
+      own-stops (l .inputs) (l .wires) (a .sheet .now .now) (a .level) (a .asked) (a .at) (a .count) (c .refused4 .ensures)
       (own-deep (l .inputs) (l .wires) (a .sheet .now .now) (a .asked) (a .at) (a .count) (a .level)
-      (c .before .before .before .before .if1 .left) (omega (arith, c .before .before .if2 .left)) (c .before .if3 .taken))
+      (c .before .before .before .before .if1 .left) (told (c .before .before) .0) (c .before .if6 .taken))
 
   leaf-requires : check-one-lts.Need-check-leaf-requires (check-one-calls t) (check-one-at t) check-one.Post
   leaf-requires c κs =
-      let start = c .before .before .before .before .before .before .before in
-      let a = start .args in
-      let p = start .pre .1 in
-      (p .0, c .before .before .before .before .before .before .if1 .left, c .before .before .if4 .taken, p .1, p .2)
+      let p = c .before .before .before .before .before .before .before .pre .1 in
+      (p .0, c .before .before .before .before .before .before .if1 .left, c .before .before .if7 .taken, p .1, p .2)
 
-  leaf : check-one-lts.Need-returns-4 (check-one-calls t) (check-one-at t) check-one.Post
+  leaf : check-one-lts.Need-returns-6 (check-one-calls t) (check-one-at t) check-one.Post
   leaf c = λ l.
-      let start = c .before .before .before .before .before .before .before .before in
-      let a = start .args in
-      let p = start .pre .1 in
+      let a = c .before .before .before .before .before .before .before .before .args in
       bare-checks (l .inputs) (l .wires) (a .sheet .now .now) (a .level) (a .asked) (a .at) (a .count)
-      (omega (arith, c .before .before .before .before .if3 .left)) (c .before .before .before .before .before .before .before .if1 .left)
-      (leaf-bare _ (c .before .before .before .if4 .taken))
+      (omega (arith, c .before .before .before .before .if6 .left)) (c .before .before .before .before .before .before .before .if1 .left)
+      (leaf-bare _ (c .before .before .before .if7 .taken))
       (c .check-leaf .ensures l)
 
   node-requires : check-one-lts.Need-check-node-requires (check-one-calls t) (check-one-at t) check-one.Post
   node-requires c κs =
       let start = c .before .before .before .before .before .before .before in
-      let p = start .pre .1 in (
+      let p = start .pre .1 in
+      let kind = told (c .before .before .before .before) in (
         omega arith,
         (
           p .0,
           record {
             byte = c .before .before .before .before .before .before .if1 .left;
-            kind = c .before .before .before .before .if2 .left;
-            operands = omega (arith, c .before .before .if4 .left);
-            levels = omega (arith, c .before .before .before .if3 .left);
+            kind = record { known = kind .0; no-leaf = c .before .before .if7 .left; not-last = kind .1 };
+            levels = omega (arith, c .before .before .before .if6 .left);
             asked = p .1;
             room = p .2;
             few = p .3;
@@ -238,7 +266,7 @@ module _ (t : ℕ) where
         ),
       )
 
-  node : check-one-lts.Need-returns-5 (check-one-calls t) (check-one-at t) check-one.Post
+  node : check-one-lts.Need-returns-7 (check-one-calls t) (check-one-at t) check-one.Post
   node c = c .check-node .ensures
 
   operand-kind : check-operand-lts.Need-index-1-if3 (check-operand-calls t) (check-operand-at t) check-operand.Post
@@ -404,7 +432,7 @@ module _ (t : ℕ) where
       }
 
   own-requires : check-node-lts.Need-check-own-requires (check-node-calls t) (check-node-at t) check-node.Post
-  own-requires c κs = let n = c .before .pre .1 .1 in ((n .byte, n .operands, n .kind, n .room), n .few)
+  own-requires c κs = let n = c .before .pre .1 .1 in ((n .byte, n .kind, n .room), n .few)
 
   own-known : check-node-lts.Need-enum-known-own (check-node-calls t) (check-node-at t) check-node.Post
   own-known c = search needs
@@ -421,7 +449,7 @@ module _ (t : ℕ) where
   node-is c l =
       let a = c .before .before .args in
       let n = c .before .before .pre .1 .1 in
-      own-passed (l .inputs) (l .wires) (a .sheet .now .now) (a .asked) (a .at) (a .count) (a .level) (n .byte) (omega (arith, n .kind))
+      own-passed (l .inputs) (l .wires) (a .sheet .now .now) (a .asked) (a .at) (a .count) (a .level) (n .byte) (n .kind .known)
       (n .levels)
       ∙ sym (c .check-own .ensures (l .inputs) (l .wires) (a .asked))
 
@@ -437,7 +465,7 @@ module _ (t : ℕ) where
 
   node-fits-requires : check-node-lts.Need-fits-requires (check-node-calls t) (check-node-at t) check-node.Post
   node-fits-requires c κs =
-      let node = c .before .before .before .before .before .before .pre .1 .1 in (omega (arith, node .kind), node .asked)
+      let node = c .before .before .before .before .before .before .pre .1 .1 in (node .kind .known, node .asked)
 
   node-wrong-requires : check-node-lts.Need-refused-requires (check-node-calls t) (check-node-at t) check-node.Post
   node-wrong-requires c κs = search needs
@@ -475,7 +503,7 @@ module _ (t : ℕ) where
       let a = start .args in
       let g = own-good (l .inputs) (l .wires) (a .sheet .now .now) (a .level) (a .asked) (a .at) (a .count)
       (node-own (c .before .before) l) in
-      (n .operands, n .kind, n .asked, omega (arith, n .byte, n .few), λ e. omega (arith, g .cells, owner-cells _ e (n .kind)))
+      (n .kind, n .asked, omega (arith, n .byte, n .few), λ e. omega (arith, g .cells, owner-cells _ e (n .kind)))
 
   node-level : check-node-lts.Need-sub-check-operands (check-node-calls t) (check-node-at t) check-node.Post
   node-level c = c .before .before .before .before .before .before .before .before .before .before .before .pre .1 .1 .levels
@@ -492,7 +520,7 @@ module _ (t : ℕ) where
         omega (arith, n .levels),
         (
           p .0,
-          omega (arith, n .kind),
+          n .kind .known,
           n .asked,
           omega (arith, g .cells, g .count),
           n .few,
@@ -507,7 +535,7 @@ module _ (t : ℕ) where
       let p = start .pre .1 in
       let n = p .1 in
       whole-checks (l .inputs) (l .wires) (a .sheet .now .now) (aheadIn (a .names .now)) (a .level) (a .asked) (a .at) (a .count) (n .asked)
-      (n .few) (p .2) (n .operands) (node-own (c .before .before .before .before .before .before) l)
+      (n .few) (p .2) (n .kind .no-leaf) (node-own (c .before .before .before .before .before .before) l)
       (rw (c .before .before .before .before .before .ahead .ensures) at (c .before .before .before .note-own .ensures))
       (c .check-operands .ensures l)
 
@@ -537,8 +565,12 @@ pub +check-node+check-one+check-operand+check-operands-spec : {M : Type 1} → s
     (missing-requires t)
     (missing t)
     (read-kind t)
-    (above-requires t)
-    (above t)
+    (unknown-requires t)
+    (unknown t)
+    (above-deep-requires t)
+    (above-deep t)
+    (last-requires t)
+    (last t)
     (deep-requires t)
     (deep t)
     (leaf-requires t)

@@ -16,7 +16,7 @@ returns c = λ inputs wires asked.
     let start = c .before .before .before in
     let a = start .args in
     let p = start .pre .0 in
-    sym (plain-own inputs wires (a .sheet .now) asked (a .at) (a .count) (p .0) (p .1) (c .if1 .taken) (p .3))
+    sym (plain-own inputs wires (a .sheet .now) asked (a .at) (a .count) (p .0) (p .1) (c .if1 .taken) (p .2))
 
 check-cell-requires : tie.Need-check-cell-requires
 check-cell-requires c κs = search needs

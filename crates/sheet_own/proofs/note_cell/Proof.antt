@@ -1,13 +1,8 @@
 -- `note_cell` meets its contract: the entry that is stored is that of the cell which the kind owns.
-use mathlib.Core.Path.{sym, _∙_}
-use borrow.Author.Tests.{eq-eqb, ne-eqb}
-use Rattle.sheet_own.proofs.Nodes.{owner-cells}
+use Rattle.sheet_own.proofs.Nodes.{pre-owned}
 use borrow.Author.Needs.{needs}
 use Rattle.sheet_own.proofs.note_cell.Statement.{statement}
 use Rattle.sheet_own.proofs.note_cell.Tie as tie
-
-body-requires : tie.Need-body-requires
-body-requires c κs = search needs
 
 mul-cells : tie.Need-mul-cells
 mul-cells c = search needs
@@ -33,12 +28,6 @@ element-write-cells c = search needs
 mul-cells-3 : tie.Need-mul-cells-3
 mul-cells-3 c = search needs
 
-length-of-requires-2 : tie.Need-length-of-requires-2
-length-of-requires-2 c κs = search needs
-
-add-cells-3 : tie.Need-add-cells-3
-add-cells-3 c = search needs
-
 cast-cells-2 : tie.Need-cast-cells-2
 cast-cells-2 c = search needs
 
@@ -48,29 +37,39 @@ mul-cells-4 c = search needs
 element-write-cells-2 : tie.Need-element-write-cells-2
 element-write-cells-2 c = search needs
 
+mul-cells-5 : tie.Need-mul-cells-5
+mul-cells-5 c = search needs
+
+length-of-requires-2 : tie.Need-length-of-requires-2
+length-of-requires-2 c κs = search needs
+
+add-cells-3 : tie.Need-add-cells-3
+add-cells-3 c = search needs
+
+cast-cells-3 : tie.Need-cast-cells-3
+cast-cells-3 c = search needs
+
+mul-cells-6 : tie.Need-mul-cells-6
+mul-cells-6 c = search needs
+
+element-write-cells-3 : tie.Need-element-write-cells-3
+element-write-cells-3 c = search needs
+
 returns : tie.Need-returns
-returns c =
-    let p = c .before .before .before .pre in
-    simp (
-      owner-cells _ (p .0) (p .1),
-      eq-eqb _ _ (sym (c .before .before .body .ensures) ∙ c .before .if1 .taken),
-      c .length-of .ensures .0,
-    )
+returns c = simp (c .before .if1 .taken, c .length-of .ensures .0)
 
 returns-2 : tie.Need-returns-2
-returns-2 c =
+returns-2 c = simp (c .if2 .taken)
+
+returns-3 : tie.Need-returns-3
+returns-3 c =
     let p = c .before .before .before .pre in
-    simp (
-      owner-cells _ (p .0) (p .1),
-      ne-eqb _ _ (λ e. c .before .if1 .left (c .before .before .body .ensures ∙ e)),
-      c .length-of2 .ensures .0,
-    )
+    simp (pre-owned _ (p .0) (p .1) (c .before .before .if1 .left) (c .before .if2 .left), c .length-of2 .ensures .0)
 
 pub note-cell-spec : {M : Type 1} → statement M
 note-cell-spec =
     tie.close
     (tie.spec
-    body-requires
     mul-cells
     length-of-requires
     add-cells
@@ -79,10 +78,15 @@ note-cell-spec =
     mul-cells-2
     element-write-cells
     mul-cells-3
-    length-of-requires-2
-    add-cells-3
     cast-cells-2
     mul-cells-4
     element-write-cells-2
+    mul-cells-5
+    length-of-requires-2
+    add-cells-3
+    cast-cells-3
+    mul-cells-6
+    element-write-cells-3
     returns
-    returns-2)
+    returns-2
+    returns-3)

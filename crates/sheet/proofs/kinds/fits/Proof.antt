@@ -29,10 +29,10 @@ module _ (column asked : ℕ) where
 
 -- for a Boolean and for a number
 both-fitting : (asked : ℕ) → asked < 2 → (k : ℕ) → k < kindCount
-    → fitting 0o321333112211210021 asked k ≡ eqb (typed asked (ownTypeOf k)) asked
+    → fitting 0o30321333112211210021 asked k ≡ eqb (typed asked (ownTypeOf k)) asked
 unfolding passes
-both-fitting zero l = fitting-is 0o321333112211210021 0 refl
-both-fitting (suc zero) l = fitting-is 0o321333112211210021 1 refl
+both-fitting zero l = fitting-is 0o30321333112211210021 0 refl
+both-fitting (suc zero) l = fitting-is 0o30321333112211210021 1 refl
 both-fitting (suc (suc asked)) l = absurd (omega arith)
 
 digit-requires : tie.Need-digit-requires

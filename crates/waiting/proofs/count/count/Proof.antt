@@ -1,14 +1,14 @@
 -- `count` meets its contract.
 use native.Mathlib.Omega.{arith}
 use Rattle.expression.proofs.Views.{Opened, opened}
-use Rattle.waiting.proofs.Counting.{reads-few, strict-counts}
+use Rattle.waiting.proofs.Counting.{Strict, reads-few, strict-counts}
 use borrow.Author.Needs.{needs}
 use Rattle.waiting.proofs.count.count.Statement.{statement}
 use Rattle.waiting.proofs.count.count.Tie as tie
 
 -- where no kind of its own is left
-abbrev placement : (c : tie.Else3) → let b = c .before .before .before .before .before in Opened (b .pre .0 .1)
-placement c = opened (c .before .before .before .before .before .pre .0 .1)
+abbrev placement : (c : tie.Else4) → let b = c .before .before .before .before .before .before in Opened (b .pre .0 .1)
+placement c = opened (c .before .before .before .before .before .before .pre .0 .1)
 
 shared-slice-read-kind : tie.Need-shared-slice-read-kind
 shared-slice-read-kind c = opened (c .before .before .pre .0 .1) .good .starts
@@ -30,6 +30,12 @@ count-fby-requires c κs = search needs
 
 returns-3 : tie.Need-returns-3
 returns-3 c = search needs
+
+count-machine-requires : tie.Need-count-machine-requires
+count-machine-requires c κs = search needs
+
+returns-4 : tie.Need-returns-4
+returns-4 c = search needs
 
 add-first : tie.Need-add-first
 add-first c = omega (arith, placement c .good .starts)
@@ -57,15 +63,20 @@ sub-rest c =
     let o = placement (c .before .before .before .before) in
     omega (arith, reads-few _ (o .good .kind), c .operands .ensures, c .before .read-operands .ensures)
 
-returns-4 : tie.Need-returns-4
-returns-4 c =
+returns-5 : tie.Need-returns-5
+returns-5 c =
     let read = c .before in
     let own = read .before in
     let test = own .before .before in
-    let b = test .before .before .before .before .before in
+    let b = test .before .before .before .before .before .before in
     let o = placement test in
-    λ t p. strict-counts p (b .args .fresh) (b .pre .1) (test .before .before .if1 .left) (test .before .if2 .left) (test .if3 .left)
-    (own .before .body .ensures) (own .cells .ensures) (read .read-operands .ensures)
+    let s : Strict _ = record {
+      not-present = test .before .before .before .if1 .left;
+      not-reset = test .before .before .if2 .left;
+      not-fby = test .before .if3 .left;
+      not-machine = test .if4 .left;
+    } in
+    λ t p. strict-counts p (b .args .fresh) (b .pre .1) s (own .before .body .ensures) (own .cells .ensures) (read .read-operands .ensures)
     (omega (arith, reads-few _ (o .good .kind), c .operands .ensures, read .read-operands .ensures))
 
 pub count-spec : {M : Type 1} → statement M
@@ -79,6 +90,8 @@ count-spec =
     returns-2
     count-fby-requires
     returns-3
+    count-machine-requires
+    returns-4
     add-first
     body-requires
     add-first-2
@@ -87,4 +100,4 @@ count-spec =
     read-operands-requires
     operands-requires
     sub-rest
-    returns-4)
+    returns-5)

@@ -8,9 +8,11 @@ use borrow.Author.Tests.{not-true, not-false}
 use borrow.Fn.Kinds.{In}
 use borrow.Fn.PlainCycle.{Measures, is, falls, and}
 use Rattle.expression.specs.Places.{unknown}
-use Rattle.expression.proofs.Views.{opened, placed, readable, leaf-of, last-of, own-cell, below-last, only-fby}
-use Rattle.expression.proofs.Views.{own-types, operation-first, binary-view, conditional-view, present-view, reset-view, fby-view}
+use Rattle.expression.proofs.Views.{opened, placed, readable, leaf-of, last-of, own-cell, state-cell, only-fby, only-machine}
+use Rattle.expression.proofs.Views.{own-types, operation-first, binary-view, conditional-view, present-view, reset-view, fby-view, machine-view}
 use Rattle.expression.proofs.Values.{after-value, after-walk}
+use Rattle.expression.proofs.Machines.{asked-condition, condition-unknown, other-condition, first-body, running-body}
+use Rattle.expression.proofs.Machines.{body-unknown, other-body, machine-answer}
 use Rattle.expression.proofs.Answers.{leaf-yields, last-yields, operation-unknown, unary-answer, binary-answer}
 use Rattle.expression.proofs.Answers.{conditional-unknown, conditional-unknown-arm, conditional-answer}
 use Rattle.expression.proofs.Answers.{present-unknown, present-unknown-arm, present-answer-first, present-answer-second}
@@ -23,12 +25,15 @@ use Rattle.expression.proofs.value.value_expression.Reads as expression
 use Rattle.expression.proofs.value.value_expression.Kinds as expression-kinds
 use Rattle.expression.proofs.value.value_held.Reads as fby
 use Rattle.expression.proofs.value.value_held.Kinds as fby-kinds
+use Rattle.expression.proofs.value.value_machine.Reads as machine
+use Rattle.expression.proofs.value.value_machine.Kinds as machine-kinds
 use Rattle.expression.proofs.value.value_operation.Reads as operation
 use Rattle.expression.proofs.value.value_operation.Kinds as operation-kinds
 use Rattle.expression.proofs.value.value_present.Reads as present
 use Rattle.expression.proofs.value.value_present.Kinds as present-kinds
 use Rattle.expression.proofs.value.value_reset.Reads as reset
 use Rattle.expression.proofs.value.value_reset.Kinds as reset-kinds
+use Rattle.leaves.proofs.cells.is_second_state.Reads as is-second-state-reads
 use Rattle.leaves.proofs.cells.is_seen.Reads as is-seen-reads
 use Rattle.leaves.proofs.lasts.value_last.Reads as value-last-reads
 use Rattle.leaves.proofs.leaf.value_leaf.Reads as value-leaf-reads
@@ -39,36 +44,41 @@ use Rattle.operations.proofs.choose.Reads as choose-reads
 use Rattle.operations.proofs.unary.Reads as unary-reads
 use Rattle.sheet.proofs.memory.word_in.Reads as word-in-reads
 use Rattle.sheet_walk.proofs.skip.skip.Reads as skip-reads
-use Rattle.expression.proofs.value.+value_by_kind+value_conditional+value_expression+value_held+value_operation+value_present+value_reset.{statement}
-use Rattle.expression.proofs.value.+value_by_kind+value_conditional+value_expression+value_held+value_operation+value_present+value_reset.Lts-value_by_kind as by-kind-lts
-use Rattle.expression.proofs.value.+value_by_kind+value_conditional+value_expression+value_held+value_operation+value_present+value_reset.Lts-value_conditional as conditional-lts
-use Rattle.expression.proofs.value.+value_by_kind+value_conditional+value_expression+value_held+value_operation+value_present+value_reset.Lts-value_expression as expression-lts
-use Rattle.expression.proofs.value.+value_by_kind+value_conditional+value_expression+value_held+value_operation+value_present+value_reset.Lts-value_held as fby-lts
-use Rattle.expression.proofs.value.+value_by_kind+value_conditional+value_expression+value_held+value_operation+value_present+value_reset.Lts-value_operation as operation-lts
-use Rattle.expression.proofs.value.+value_by_kind+value_conditional+value_expression+value_held+value_operation+value_present+value_reset.Lts-value_present as present-lts
-use Rattle.expression.proofs.value.+value_by_kind+value_conditional+value_expression+value_held+value_operation+value_present+value_reset.Lts-value_reset as reset-lts
-use Rattle.expression.proofs.value.+value_by_kind+value_conditional+value_expression+value_held+value_operation+value_present+value_reset.Tie.{close}
+use Rattle.sheet_walk.proofs.skip.skip_if.Reads as skip-if-reads
+use Rattle.expression.proofs.value.+value_by_kind+value_conditional+value_expression+value_held+value_machine+value_operation+value_present+value_reset.{statement}
+use Rattle.expression.proofs.value.+value_by_kind+value_conditional+value_expression+value_held+value_machine+value_operation+value_present+value_reset.Lts-value_by_kind as by-kind-lts
+use Rattle.expression.proofs.value.+value_by_kind+value_conditional+value_expression+value_held+value_machine+value_operation+value_present+value_reset.Lts-value_conditional as conditional-lts
+use Rattle.expression.proofs.value.+value_by_kind+value_conditional+value_expression+value_held+value_machine+value_operation+value_present+value_reset.Lts-value_expression as expression-lts
+use Rattle.expression.proofs.value.+value_by_kind+value_conditional+value_expression+value_held+value_machine+value_operation+value_present+value_reset.Lts-value_held as fby-lts
+use Rattle.expression.proofs.value.+value_by_kind+value_conditional+value_expression+value_held+value_machine+value_operation+value_present+value_reset.Lts-value_machine as machine-lts
+use Rattle.expression.proofs.value.+value_by_kind+value_conditional+value_expression+value_held+value_machine+value_operation+value_present+value_reset.Lts-value_operation as operation-lts
+use Rattle.expression.proofs.value.+value_by_kind+value_conditional+value_expression+value_held+value_machine+value_operation+value_present+value_reset.Lts-value_present as present-lts
+use Rattle.expression.proofs.value.+value_by_kind+value_conditional+value_expression+value_held+value_machine+value_operation+value_present+value_reset.Lts-value_reset as reset-lts
+use Rattle.expression.proofs.value.+value_by_kind+value_conditional+value_expression+value_held+value_machine+value_operation+value_present+value_reset.Tie.{close}
 
 abbrev μ-by-kind : Measures 4 by-kind-kinds.ps ℕ
-μ-by-kind κs a = 3 * a .1 .1 .1 .1 .0 + 1
+μ-by-kind κs a = 4 * a .1 .1 .1 .1 .0 + 2
 
 abbrev μ-conditional : Measures 4 conditional-kinds.ps ℕ
-μ-conditional κs a = 3 * a .1 .1 .1 .1 .0
+μ-conditional κs a = 4 * a .1 .1 .1 .1 .0 + 1
 
 abbrev μ-expression : Measures 4 expression-kinds.ps ℕ
-μ-expression κs a = 3 * a .1 .1 .1 .1 .0 + 2
+μ-expression κs a = 4 * a .1 .1 .1 .1 .0 + 3
 
 abbrev μ-fby : Measures 4 fby-kinds.ps ℕ
-μ-fby κs a = 3 * a .1 .1 .1 .1 .0
+μ-fby κs a = 4 * a .1 .1 .1 .1 .0 + 1
+
+abbrev μ-machine : Measures 4 machine-kinds.ps ℕ
+μ-machine κs a = 4 * a .1 .1 .1 .1 .0
 
 abbrev μ-operation : Measures 4 operation-kinds.ps ℕ
-μ-operation κs a = 3 * a .1 .1 .1 .1 .0
+μ-operation κs a = 4 * a .1 .1 .1 .1 .0 + 1
 
 abbrev μ-present : Measures 4 present-kinds.ps ℕ
-μ-present κs a = 3 * a .1 .1 .1 .1 .0
+μ-present κs a = 4 * a .1 .1 .1 .1 .0 + 1
 
 abbrev μ-reset : Measures 4 reset-kinds.ps ℕ
-μ-reset κs a = 3 * a .1 .1 .1 .1 .0
+μ-reset κs a = 4 * a .1 .1 .1 .1 .0 + 1
 
 abbrev by-kind-at : ℕ → In 4 by-kind-kinds.ps
 by-kind-at t = and 4 by-kind-kinds.ps (is 4 by-kind-kinds.ps μ-by-kind t) by-kind.Pre
@@ -93,6 +103,12 @@ fby-at t = and 4 fby-kinds.ps (is 4 fby-kinds.ps μ-fby t) fby.Pre
 
 abbrev fby-below : ℕ → In 4 fby-kinds.ps
 fby-below t = and 4 fby-kinds.ps (falls 4 fby-kinds.ps _<_ μ-fby t) fby.Pre
+
+abbrev machine-at : ℕ → In 4 machine-kinds.ps
+machine-at t = and 4 machine-kinds.ps (is 4 machine-kinds.ps μ-machine t) machine.Pre
+
+abbrev machine-below : ℕ → In 4 machine-kinds.ps
+machine-below t = and 4 machine-kinds.ps (falls 4 machine-kinds.ps _<_ μ-machine t) machine.Pre
 
 abbrev operation-at : ℕ → In 4 operation-kinds.ps
 operation-at t = and 4 operation-kinds.ps (is 4 operation-kinds.ps μ-operation t) operation.Pre
@@ -152,6 +168,8 @@ abbrev fby-calls : ℕ → fby-lts.Claims
 fby-calls t = (
   value-last-reads.Asked,
   value-last-reads.Learnt,
+  machine-below t,
+  machine.Post,
   is-seen-reads.Asked,
   is-seen-reads.Learnt,
   skip-reads.Asked,
@@ -162,6 +180,20 @@ fby-calls t = (
   expression.Post,
   unknown-reads.Asked,
   unknown-reads.Learnt,
+)
+
+abbrev machine-calls : ℕ → machine-lts.Claims
+machine-calls t = (
+  is-second-state-reads.Asked,
+  is-second-state-reads.Learnt,
+  skip-if-reads.Asked,
+  skip-if-reads.Learnt,
+  expression-below t,
+  expression.Post,
+  unknown-reads.Asked,
+  unknown-reads.Learnt,
+  by-kind-below t,
+  by-kind.Post,
 )
 
 abbrev operation-calls : ℕ → operation-lts.Claims
@@ -348,13 +380,26 @@ module _ (t : ℕ) where
   fby-shared-slice-read-if1 : fby-lts.Need-shared-slice-read-if1 (fby-calls t) (fby-at t) fby.Post
   fby-shared-slice-read-if1 c = opened (c .before .before .pre .1 .0 .1) .good .starts
 
+  fby-shared-slice-read-if2 : fby-lts.Need-shared-slice-read-if2 (fby-calls t) (fby-at t) fby.Post
+  fby-shared-slice-read-if2 c = opened (c .before .before .before .before .pre .1 .0 .1) .good .starts
+
   fby-value-last-requires : fby-lts.Need-value-last-requires (fby-calls t) (fby-at t) fby.Post
-  fby-value-last-requires c κs = last-of (c .before .before .before .pre .1 .0 .1) (c .if1 .taken)
+  fby-value-last-requires c κs = last-of (c .before .before .before .before .before .pre .1 .0 .1) (c .if2 .taken)
 
   fby-returns : fby-lts.Need-returns (fby-calls t) (fby-at t) fby.Post
   fby-returns c =
-      let b = c .before .before .before .before in
-      λ t p. last-yields p (b .args .fresh) (c .before .if1 .taken) (c .value-last .ensures)
+      let b = c .before .before .before .before .before .before in
+      λ t p. last-yields p (b .args .fresh) (c .before .if2 .taken) (c .value-last .ensures)
+
+  fby-value-machine-requires : fby-lts.Need-value-machine-requires (fby-calls t) (fby-at t) fby.Post
+  fby-value-machine-requires c κs =
+      let kind = c .before .before in
+      let b = kind .before .before .before in
+      let is = only-machine (kind .if1 .taken) (opened (b .pre .1 .0 .1) .good .kind) (c .if2 .left) in
+      (omega (arith, b .pre .0), (b .pre .1 .0, is))
+
+  fby-returns-2 : fby-lts.Need-returns-2 (fby-calls t) (fby-at t) fby.Post
+  fby-returns-2 c = c .value-machine .ensures
 
   fby-sub-below : fby-lts.Need-sub-below (fby-calls t) (fby-at t) fby.Post
   fby-sub-below c = opened (c .before .before .before .pre .1 .0 .1) .level-left
@@ -370,21 +415,21 @@ module _ (t : ℕ) where
       let kind = c .before in
       let b = kind .before .before .before in
       let p = b .pre .1 .0 .1 in
-      own-cell p (omega (arith, b .pre .1 .1)) (below-last (opened p .good .kind) (kind .if1 .left)) .stands .fits
+      own-cell p (omega (arith, b .pre .1 .1)) (omega (arith, kind .if1 .left)) .stands .fits
 
   fby-skip-requires : fby-lts.Need-skip-requires (fby-calls t) (fby-at t) fby.Post
   fby-skip-requires c κs =
       let kind = c .before .before .before in
       let b = kind .before .before .before in
       let p = b .pre .1 .0 .1 in
-      readable p (fby-view p (only-fby (b .pre .1 .1) (opened p .good .kind) (kind .if1 .left)) .first)
+      readable p (fby-view p (only-fby (b .pre .1 .1) (kind .if1 .left)) .first)
 
   fby-skip-requires-2 : fby-lts.Need-skip-requires-2 (fby-calls t) (fby-at t) fby.Post
   fby-skip-requires-2 c κs =
       let kind = c .before .before .before .before in
       let b = kind .before .before .before in
       let p = b .pre .1 .0 .1 in
-      let w = fby-view p (only-fby (b .pre .1 .1) (opened p .good .kind) (kind .if1 .left)) in
+      let w = fby-view p (only-fby (b .pre .1 .1) (kind .if1 .left)) in
       readable p (after-walk p (w .first) (c .skip .ensures) (w .second))
 
   fby-word-in-requires : fby-lts.Need-word-in-requires (fby-calls t) (fby-at t) fby.Post
@@ -392,15 +437,15 @@ module _ (t : ℕ) where
       let kind = c .before .before .before .before .before .before in
       let b = kind .before .before .before in
       let p = b .pre .1 .0 .1 in
-      own-cell p (omega (arith, b .pre .1 .1)) (below-last (opened p .good .kind) (kind .if1 .left)) .stands .fits
+      own-cell p (omega (arith, b .pre .1 .1)) (omega (arith, kind .if1 .left)) .stands .fits
 
-  fby-returns-2 : fby-lts.Need-returns-2 (fby-calls t) (fby-at t) fby.Post
-  fby-returns-2 c =
+  fby-returns-3 : fby-lts.Need-returns-3 (fby-calls t) (fby-at t) fby.Post
+  fby-returns-3 c =
       let test = c .before .before .before .before in
       let kind = test .before .before .before in
       let b = kind .before .before .before in
-      λ t p. fby-answer-cell p (b .args .fresh) (only-fby (b .pre .1 .1) (opened p .good .kind) (kind .if1 .left))
-      (sym (test .before .is-seen .ensures) ∙ test .if2 .taken)
+      λ t p. fby-answer-cell p (b .args .fresh) (only-fby (b .pre .1 .1) (kind .if1 .left))
+      (sym (test .before .is-seen .ensures) ∙ test .if3 .taken)
       (c .word-in .ensures) (c .before .before .before .skip .ensures) (c .before .before .skip2 .ensures)
 
   fby-value-expression-requires : fby-lts.Need-value-expression-requires (fby-calls t) (fby-at t) fby.Post
@@ -408,31 +453,11 @@ module _ (t : ℕ) where
       let kind = c .before .before .before in
       let b = kind .before .before .before in
       let p = b .pre .1 .0 .1 in
-      let of = only-fby (b .pre .1 .1) (opened p .good .kind) (kind .if1 .left) in
+      let of = only-fby (b .pre .1 .1) (kind .if1 .left) in
       (omega (arith, b .pre .0, opened p .level-left), (_, placed p (fby-view p of .first)))
 
   fby-unknown-requires : fby-lts.Need-unknown-requires (fby-calls t) (fby-at t) fby.Post
   fby-unknown-requires c κs = search needs
-
-  fby-returns-3 : fby-lts.Need-returns-3 (fby-calls t) (fby-at t) fby.Post
-  fby-returns-3 c =
-      let left = c .before .before .before in
-      let test = left .before in
-      let kind = test .before .before .before in
-      let b = kind .before .before .before in
-      λ t p. unknown (c .unknown .ensures)
-      (fby-unknown p (b .args .fresh) (only-fby (b .pre .1 .1) (opened p .good .kind) (kind .if1 .left))
-      (sym (test .before .is-seen .ensures) ∙ test .if2 .left)
-      (left .value-expression .ensures) (not-true _ (c .before .if3 .taken)))
-
-  fby-skip-requires-3 : fby-lts.Need-skip-requires-3 (fby-calls t) (fby-at t) fby.Post
-  fby-skip-requires-3 c κs =
-      let left = c .before .before in
-      let kind = left .before .before .before .before in
-      let b = kind .before .before .before in
-      let p = b .pre .1 .0 .1 in
-      let w = fby-view p (only-fby (b .pre .1 .1) (opened p .good .kind) (kind .if1 .left)) in
-      readable p (after-value p (w .first) (left .value-expression .ensures) (not-false _ (c .if3 .left)) (w .second))
 
   fby-returns-4 : fby-lts.Need-returns-4 (fby-calls t) (fby-at t) fby.Post
   fby-returns-4 c =
@@ -440,9 +465,144 @@ module _ (t : ℕ) where
       let test = left .before in
       let kind = test .before .before .before in
       let b = kind .before .before .before in
-      λ t p. fby-answer-left p (b .args .fresh) (only-fby (b .pre .1 .1) (opened p .good .kind) (kind .if1 .left))
-      (sym (test .before .is-seen .ensures) ∙ test .if2 .left)
-      (left .value-expression .ensures) (not-false _ (c .before .if3 .left)) (c .skip3 .ensures)
+      λ t p. unknown (c .unknown .ensures)
+      (fby-unknown p (b .args .fresh) (only-fby (b .pre .1 .1) (kind .if1 .left))
+      (sym (test .before .is-seen .ensures) ∙ test .if3 .left)
+      (left .value-expression .ensures) (not-true _ (c .before .if4 .taken)))
+
+  fby-skip-requires-3 : fby-lts.Need-skip-requires-3 (fby-calls t) (fby-at t) fby.Post
+  fby-skip-requires-3 c κs =
+      let left = c .before .before in
+      let kind = left .before .before .before .before in
+      let b = kind .before .before .before in
+      let p = b .pre .1 .0 .1 in
+      let w = fby-view p (only-fby (b .pre .1 .1) (kind .if1 .left)) in
+      readable p (after-value p (w .first) (left .value-expression .ensures) (not-false _ (c .if4 .left)) (w .second))
+
+  fby-returns-5 : fby-lts.Need-returns-5 (fby-calls t) (fby-at t) fby.Post
+  fby-returns-5 c =
+      let left = c .before .before .before in
+      let test = left .before in
+      let kind = test .before .before .before in
+      let b = kind .before .before .before in
+      λ t p. fby-answer-left p (b .args .fresh) (only-fby (b .pre .1 .1) (kind .if1 .left))
+      (sym (test .before .is-seen .ensures) ∙ test .if3 .left)
+      (left .value-expression .ensures) (not-false _ (c .before .if4 .left)) (c .skip3 .ensures)
+
+  machine-sub-below : machine-lts.Need-sub-below (machine-calls t) (machine-at t) machine.Post
+  machine-sub-below c = opened (c .before .pre .1 .0 .1) .level-left
+
+  machine-add-first : machine-lts.Need-add-first (machine-calls t) (machine-at t) machine.Post
+  machine-add-first c = omega (arith, opened (c .before .pre .1 .0 .1) .good .starts)
+
+  machine-add-inner : machine-lts.Need-add-inner (machine-calls t) (machine-at t) machine.Post
+  machine-add-inner c = omega (arith, opened (c .before .pre .1 .0 .1) .good .cells)
+
+  machine-is-second-state-requires : machine-lts.Need-is-second-state-requires (machine-calls t) (machine-at t) machine.Post
+  machine-is-second-state-requires c κs =
+      let b = c .before .before in
+      state-cell (b .pre .1 .0 .1) (b .pre .1 .1) .stands .fits
+
+  machine-skip-if-requires : machine-lts.Need-skip-if-requires (machine-calls t) (machine-at t) machine.Post
+  machine-skip-if-requires c κs =
+      let b = c .before .before .before in
+      let p = b .pre .1 .0 .1 in
+      λ holds. readable p (machine-view p (b .pre .1 .1) .first)
+
+  machine-value-expression-requires : machine-lts.Need-value-expression-requires (machine-calls t) (machine-at t) machine.Post
+  machine-value-expression-requires c κs =
+      let state = c .before in
+      let b = state .before .before .before in
+      let p = b .pre .1 .0 .1 in
+      let condition = asked-condition p (b .pre .1 .1) (b .args .fresh) (state .is-second-state .ensures) (c .skip-if .ensures) in
+      (omega (arith, b .pre .0, opened p .level-left), (_, placed p condition))
+
+  machine-unknown-requires : machine-lts.Need-unknown-requires (machine-calls t) (machine-at t) machine.Post
+  machine-unknown-requires c κs = search needs
+
+  machine-returns : machine-lts.Need-returns (machine-calls t) (machine-at t) machine.Post
+  machine-returns c =
+      let condition = c .before .before .before in
+      let asked = condition .before in
+      let state = asked .before in
+      let b = state .before .before .before in
+      λ t p. unknown (c .unknown .ensures)
+      (condition-unknown p (b .pre .1 .1) (b .args .fresh) (state .is-second-state .ensures) (asked .skip-if .ensures)
+      (condition .value-expression .ensures) (not-true _ (c .before .if1 .taken)))
+
+  machine-skip-if-requires-2 : machine-lts.Need-skip-if-requires-2 (machine-calls t) (machine-at t) machine.Post
+  machine-skip-if-requires-2 c κs =
+      let condition = c .before .before in
+      let asked = condition .before in
+      let state = asked .before in
+      let b = state .before .before .before in
+      let p = b .pre .1 .0 .1 in
+      λ fails. readable p (other-condition p (b .pre .1 .1) (b .args .fresh) (state .is-second-state .ensures) (asked .skip-if .ensures)
+      (condition .value-expression .ensures) (not-false _ (c .if1 .left)) fails)
+
+  machine-skip-if-requires-3 : machine-lts.Need-skip-if-requires-3 (machine-calls t) (machine-at t) machine.Post
+  machine-skip-if-requires-3 c κs =
+      let bodies = c .before in
+      let condition = bodies .before .before .before in
+      let asked = condition .before in
+      let state = asked .before in
+      let b = state .before .before .before in
+      let p = b .pre .1 .0 .1 in
+      λ holds. readable p (first-body p (b .pre .1 .1) (b .args .fresh) (state .is-second-state .ensures) (asked .skip-if .ensures)
+      (condition .value-expression .ensures) (not-false _ (bodies .before .if1 .left)) (bodies .skip-if2 .ensures))
+
+  machine-value-by-kind-requires : machine-lts.Need-value-by-kind-requires (machine-calls t) (machine-at t) machine.Post
+  machine-value-by-kind-requires c κs =
+      let bodies = c .before .before in
+      let condition = bodies .before .before .before in
+      let asked = condition .before in
+      let state = asked .before in
+      let b = state .before .before .before in
+      let p = b .pre .1 .0 .1 in
+      let body = running-body p (b .pre .1 .1) (b .args .fresh) (state .is-second-state .ensures) (asked .skip-if .ensures)
+      (condition .value-expression .ensures) (not-false _ (bodies .before .if1 .left)) (bodies .skip-if2 .ensures) (c .skip-if3 .ensures) in
+      (omega (arith, b .pre .0, opened p .level-left), (_, placed p body))
+
+  machine-unknown-requires-2 : machine-lts.Need-unknown-requires-2 (machine-calls t) (machine-at t) machine.Post
+  machine-unknown-requires-2 c κs = search needs
+
+  machine-returns-2 : machine-lts.Need-returns-2 (machine-calls t) (machine-at t) machine.Post
+  machine-returns-2 c =
+      let body = c .before .before .before in
+      let bodies = body .before .before .before in
+      let condition = bodies .before .before .before in
+      let asked = condition .before in
+      let state = asked .before in
+      let b = state .before .before .before in
+      λ t p. unknown (c .unknown2 .ensures)
+      (body-unknown p (b .pre .1 .1) (b .args .fresh) (state .is-second-state .ensures) (asked .skip-if .ensures)
+      (condition .value-expression .ensures) (not-false _ (bodies .before .if1 .left)) (bodies .skip-if2 .ensures)
+      (body .before .skip-if3 .ensures) (body .value-by-kind .ensures) (not-true _ (c .before .if2 .taken)))
+
+  machine-skip-if-requires-4 : machine-lts.Need-skip-if-requires-4 (machine-calls t) (machine-at t) machine.Post
+  machine-skip-if-requires-4 c κs =
+      let body = c .before .before in
+      let bodies = body .before .before .before in
+      let condition = bodies .before .before .before in
+      let asked = condition .before in
+      let state = asked .before in
+      let b = state .before .before .before in
+      let p = b .pre .1 .0 .1 in
+      λ fails. readable p (other-body p (b .pre .1 .1) (b .args .fresh) (state .is-second-state .ensures) (asked .skip-if .ensures)
+      (condition .value-expression .ensures) (not-false _ (bodies .before .if1 .left)) (bodies .skip-if2 .ensures)
+      (body .before .skip-if3 .ensures) (body .value-by-kind .ensures) (not-false _ (c .if2 .left)) fails)
+
+  machine-returns-3 : machine-lts.Need-returns-3 (machine-calls t) (machine-at t) machine.Post
+  machine-returns-3 c =
+      let body = c .before .before .before in
+      let bodies = body .before .before .before in
+      let condition = bodies .before .before .before in
+      let asked = condition .before in
+      let state = asked .before in
+      let b = state .before .before .before in
+      λ t p. machine-answer p (b .pre .1 .1) (b .args .fresh) (state .is-second-state .ensures) (asked .skip-if .ensures)
+      (condition .value-expression .ensures) (not-false _ (bodies .before .if1 .left)) (bodies .skip-if2 .ensures)
+      (body .before .skip-if3 .ensures) (body .value-by-kind .ensures) (not-false _ (c .before .if2 .left)) (c .skip-if4 .ensures)
 
   operation-shared-slice-read-kind : operation-lts.Need-shared-slice-read-kind (operation-calls t) (operation-at t) operation.Post
   operation-shared-slice-read-kind c = opened (c .before .before .pre .1 .0 .1) .good .starts
@@ -636,9 +796,9 @@ module _ (t : ℕ) where
       λ t p. reset-answer p (b .args .fresh) (b .pre .1 .1) (condition .value-expression .ensures) (not-false _ (test .if1 .left))
       (c .value-by-kind .ensures)
 
-pub +value-by-kind+value-conditional+value-expression+value-held+value-operation+value-present+value-reset-spec : {M : Type 1} → statement M
-+value-by-kind+value-conditional+value-expression+value-held+value-operation+value-present+value-reset-spec =
-    close μ-by-kind μ-conditional μ-expression μ-fby μ-operation μ-present μ-reset
+pub +value-by-kind+value-conditional+value-expression+value-held+value-machine+value-operation+value-present+value-reset-spec : {M : Type 1} → statement M
++value-by-kind+value-conditional+value-expression+value-held+value-machine+value-operation+value-present+value-reset-spec =
+    close μ-by-kind μ-conditional μ-expression μ-fby μ-machine μ-operation μ-present μ-reset
     (λ t. by-kind-lts.spec (by-kind-calls t) (by-kind-at t) by-kind.Post
     (by-kind-shared-slice-read-match t) (by-kind-value-conditional-requires t) (by-kind-value-present-requires t)
     (by-kind-value-reset-requires t) (by-kind-value-leaf-requires t) (by-kind-value-operation-requires t)
@@ -654,10 +814,16 @@ pub +value-by-kind+value-conditional+value-expression+value-held+value-operation
     (expression-shared-slice-read-if1 t) (expression-value-leaf-requires t) (expression-returns t)
     (expression-value-by-kind-requires t) (expression-returns-2 t))
     (λ t. fby-lts.spec (fby-calls t) (fby-at t) fby.Post
-    (fby-shared-slice-read-if1 t) (fby-value-last-requires t) (fby-returns t) (fby-sub-below t) (fby-add-first t)
+    (fby-shared-slice-read-if1 t) (fby-shared-slice-read-if2 t) (fby-value-last-requires t) (fby-returns t)
+    (fby-value-machine-requires t) (fby-returns-2 t) (fby-sub-below t) (fby-add-first t)
     (fby-add-inner t) (fby-is-seen-requires t) (fby-skip-requires t) (fby-skip-requires-2 t) (fby-word-in-requires t)
-    (fby-returns-2 t) (fby-value-expression-requires t) (fby-unknown-requires t) (fby-returns-3 t)
-    (fby-skip-requires-3 t) (fby-returns-4 t))
+    (fby-returns-3 t) (fby-value-expression-requires t) (fby-unknown-requires t) (fby-returns-4 t)
+    (fby-skip-requires-3 t) (fby-returns-5 t))
+    (λ t. machine-lts.spec (machine-calls t) (machine-at t) machine.Post
+    (machine-sub-below t) (machine-add-first t) (machine-add-inner t) (machine-is-second-state-requires t)
+    (machine-skip-if-requires t) (machine-value-expression-requires t) (machine-unknown-requires t) (machine-returns t)
+    (machine-skip-if-requires-2 t) (machine-skip-if-requires-3 t) (machine-value-by-kind-requires t)
+    (machine-unknown-requires-2 t) (machine-returns-2 t) (machine-skip-if-requires-4 t) (machine-returns-3 t))
     (λ t. operation-lts.spec (operation-calls t) (operation-at t) operation.Post
     (operation-shared-slice-read-kind t) (operation-sub-below t) (operation-add-first t)
     (operation-value-expression-requires t) (operation-unknown-requires t) (operation-returns t)

@@ -6,36 +6,42 @@ use native.Mathlib.Omega.{arith}
 use borrow.Author.Needs.{needs}
 use borrow.Fn.Kinds.{In}
 use borrow.Fn.PlainCycle.{Measures, is, falls, and}
-use Rattle.expression.proofs.Views.{opened, whole, leaf-of, last-of, own-cell, below-last, only-fby}
+use Rattle.expression.proofs.Views.{opened, whole, leaf-of, last-of, own-cell, state-cell, only-fby, only-machine}
 use Rattle.expression.proofs.Views.{binary-view, conditional-view, present-view, reset-view, pre-view, fby-view}
 use Rattle.storing.proofs.Steps.{one-ready, two-ready, two-ready-2, three-ready, three-ready-2, three-ready-3}
 use Rattle.storing.proofs.Steps.{three-arm-2, three-arm-3, rest-ready-3}
 use Rattle.storing.proofs.Advancing.{leaf-advances, last-advances, operation-ready, unary-advances, binary-advances, conditional-advances}
 use Rattle.storing.proofs.Advancing.{present-advances-first, present-advances-second, reset-advances, pre-advances, fby-advances}
+use Rattle.storing.proofs.Machines.{first-condition, condition-ready, second-condition, first-body, body-ready, second-body}
+use Rattle.storing.proofs.Machines.{machine-advances}
 use Rattle.storing.proofs.advance.advance_by_kind.Reads as by-kind
 use Rattle.storing.proofs.advance.advance_by_kind.Kinds as by-kind-kinds
-use Rattle.storing.proofs.advance.+advance_by_kind+advance_conditional+advance_expression+advance_held+advance_operation+advance_pre+advance_present+advance_reset.Lts-advance_by_kind as by-kind-lts
+use Rattle.storing.proofs.advance.+advance_by_kind+advance_conditional+advance_expression+advance_held+advance_machine+advance_operation+advance_pre+advance_present+advance_reset.Lts-advance_by_kind as by-kind-lts
 use Rattle.storing.proofs.advance.advance_conditional.Reads as conditional
 use Rattle.storing.proofs.advance.advance_conditional.Kinds as conditional-kinds
-use Rattle.storing.proofs.advance.+advance_by_kind+advance_conditional+advance_expression+advance_held+advance_operation+advance_pre+advance_present+advance_reset.Lts-advance_conditional as conditional-lts
+use Rattle.storing.proofs.advance.+advance_by_kind+advance_conditional+advance_expression+advance_held+advance_machine+advance_operation+advance_pre+advance_present+advance_reset.Lts-advance_conditional as conditional-lts
 use Rattle.storing.proofs.advance.advance_expression.Reads as expression
 use Rattle.storing.proofs.advance.advance_expression.Kinds as expression-kinds
-use Rattle.storing.proofs.advance.+advance_by_kind+advance_conditional+advance_expression+advance_held+advance_operation+advance_pre+advance_present+advance_reset.Lts-advance_expression as expression-lts
+use Rattle.storing.proofs.advance.+advance_by_kind+advance_conditional+advance_expression+advance_held+advance_machine+advance_operation+advance_pre+advance_present+advance_reset.Lts-advance_expression as expression-lts
 use Rattle.storing.proofs.advance.advance_held.Reads as fby
 use Rattle.storing.proofs.advance.advance_held.Kinds as fby-kinds
-use Rattle.storing.proofs.advance.+advance_by_kind+advance_conditional+advance_expression+advance_held+advance_operation+advance_pre+advance_present+advance_reset.Lts-advance_held as fby-lts
+use Rattle.storing.proofs.advance.+advance_by_kind+advance_conditional+advance_expression+advance_held+advance_machine+advance_operation+advance_pre+advance_present+advance_reset.Lts-advance_held as fby-lts
+use Rattle.storing.proofs.advance.advance_machine.Reads as machine
+use Rattle.storing.proofs.advance.advance_machine.Kinds as machine-kinds
+use Rattle.storing.proofs.advance.+advance_by_kind+advance_conditional+advance_expression+advance_held+advance_machine+advance_operation+advance_pre+advance_present+advance_reset.Lts-advance_machine as machine-lts
 use Rattle.storing.proofs.advance.advance_operation.Reads as operation
 use Rattle.storing.proofs.advance.advance_operation.Kinds as operation-kinds
-use Rattle.storing.proofs.advance.+advance_by_kind+advance_conditional+advance_expression+advance_held+advance_operation+advance_pre+advance_present+advance_reset.Lts-advance_operation as operation-lts
+use Rattle.storing.proofs.advance.+advance_by_kind+advance_conditional+advance_expression+advance_held+advance_machine+advance_operation+advance_pre+advance_present+advance_reset.Lts-advance_operation as operation-lts
 use Rattle.storing.proofs.advance.advance_pre.Reads as pre
 use Rattle.storing.proofs.advance.advance_pre.Kinds as pre-kinds
-use Rattle.storing.proofs.advance.+advance_by_kind+advance_conditional+advance_expression+advance_held+advance_operation+advance_pre+advance_present+advance_reset.Lts-advance_pre as pre-lts
+use Rattle.storing.proofs.advance.+advance_by_kind+advance_conditional+advance_expression+advance_held+advance_machine+advance_operation+advance_pre+advance_present+advance_reset.Lts-advance_pre as pre-lts
 use Rattle.storing.proofs.advance.advance_present.Reads as present
 use Rattle.storing.proofs.advance.advance_present.Kinds as present-kinds
-use Rattle.storing.proofs.advance.+advance_by_kind+advance_conditional+advance_expression+advance_held+advance_operation+advance_pre+advance_present+advance_reset.Lts-advance_present as present-lts
+use Rattle.storing.proofs.advance.+advance_by_kind+advance_conditional+advance_expression+advance_held+advance_machine+advance_operation+advance_pre+advance_present+advance_reset.Lts-advance_present as present-lts
 use Rattle.storing.proofs.advance.advance_reset.Reads as reset
 use Rattle.storing.proofs.advance.advance_reset.Kinds as reset-kinds
-use Rattle.storing.proofs.advance.+advance_by_kind+advance_conditional+advance_expression+advance_held+advance_operation+advance_pre+advance_present+advance_reset.Lts-advance_reset as reset-lts
+use Rattle.storing.proofs.advance.+advance_by_kind+advance_conditional+advance_expression+advance_held+advance_machine+advance_operation+advance_pre+advance_present+advance_reset.Lts-advance_reset as reset-lts
+use Rattle.leaves.proofs.cells.is_second_state.Reads as is-second-state-reads
 use Rattle.leaves.proofs.cells.is_seen.Reads as is-seen-reads
 use Rattle.leaves.proofs.cells.pre_word.Reads as pre-word-reads
 use Rattle.operations.proofs.binary.Reads as binary-reads
@@ -49,32 +55,36 @@ use Rattle.sheet.proofs.memory.word_in.Reads as word-in-reads
 use Rattle.storing.proofs.advance.advance_last.Reads as last-reads
 use Rattle.storing.proofs.advance.advance_leaf.Reads as leaf-reads
 use Rattle.storing.proofs.rest.rest.Reads as rest-reads
-use Rattle.storing.proofs.advance.+advance_by_kind+advance_conditional+advance_expression+advance_held+advance_operation+advance_pre+advance_present+advance_reset.{statement}
-use Rattle.storing.proofs.advance.+advance_by_kind+advance_conditional+advance_expression+advance_held+advance_operation+advance_pre+advance_present+advance_reset.Tie.{close}
+use Rattle.storing.proofs.rest.rest_if.Reads as rest-if-reads
+use Rattle.storing.proofs.advance.+advance_by_kind+advance_conditional+advance_expression+advance_held+advance_machine+advance_operation+advance_pre+advance_present+advance_reset.{statement}
+use Rattle.storing.proofs.advance.+advance_by_kind+advance_conditional+advance_expression+advance_held+advance_machine+advance_operation+advance_pre+advance_present+advance_reset.Tie.{close}
 
 abbrev μ-by-kind : Measures 3 by-kind-kinds.ps ℕ
-μ-by-kind κs a = 3 * a .1 .1 .1 .0 + 1
+μ-by-kind κs a = 4 * a .1 .1 .1 .0 + 2
 
 abbrev μ-conditional : Measures 3 conditional-kinds.ps ℕ
-μ-conditional κs a = 3 * a .1 .1 .1 .0
+μ-conditional κs a = 4 * a .1 .1 .1 .0 + 1
 
 abbrev μ-expression : Measures 3 expression-kinds.ps ℕ
-μ-expression κs a = 3 * a .1 .1 .1 .0 + 2
+μ-expression κs a = 4 * a .1 .1 .1 .0 + 3
 
 abbrev μ-fby : Measures 3 fby-kinds.ps ℕ
-μ-fby κs a = 3 * a .1 .1 .1 .0
+μ-fby κs a = 4 * a .1 .1 .1 .0 + 1
+
+abbrev μ-machine : Measures 3 machine-kinds.ps ℕ
+μ-machine κs a = 4 * a .1 .1 .1 .0
 
 abbrev μ-operation : Measures 3 operation-kinds.ps ℕ
-μ-operation κs a = 3 * a .1 .1 .1 .0
+μ-operation κs a = 4 * a .1 .1 .1 .0 + 1
 
 abbrev μ-pre : Measures 3 pre-kinds.ps ℕ
-μ-pre κs a = 3 * a .1 .1 .1 .0
+μ-pre κs a = 4 * a .1 .1 .1 .0 + 1
 
 abbrev μ-present : Measures 3 present-kinds.ps ℕ
-μ-present κs a = 3 * a .1 .1 .1 .0
+μ-present κs a = 4 * a .1 .1 .1 .0 + 1
 
 abbrev μ-reset : Measures 3 reset-kinds.ps ℕ
-μ-reset κs a = 3 * a .1 .1 .1 .0
+μ-reset κs a = 4 * a .1 .1 .1 .0 + 1
 
 abbrev by-kind-at : ℕ → In 3 by-kind-kinds.ps
 by-kind-at t = and 3 by-kind-kinds.ps (is 3 by-kind-kinds.ps μ-by-kind t) by-kind.Pre
@@ -99,6 +109,12 @@ fby-at t = and 3 fby-kinds.ps (is 3 fby-kinds.ps μ-fby t) fby.Pre
 
 abbrev fby-below : ℕ → In 3 fby-kinds.ps
 fby-below t = and 3 fby-kinds.ps (falls 3 fby-kinds.ps _<_ μ-fby t) fby.Pre
+
+abbrev machine-at : ℕ → In 3 machine-kinds.ps
+machine-at t = and 3 machine-kinds.ps (is 3 machine-kinds.ps μ-machine t) machine.Pre
+
+abbrev machine-below : ℕ → In 3 machine-kinds.ps
+machine-below t = and 3 machine-kinds.ps (falls 3 machine-kinds.ps _<_ μ-machine t) machine.Pre
 
 abbrev operation-at : ℕ → In 3 operation-kinds.ps
 operation-at t = and 3 operation-kinds.ps (is 3 operation-kinds.ps μ-operation t) operation.Pre
@@ -162,6 +178,8 @@ abbrev fby-calls : ℕ → fby-lts.Claims
 fby-calls t = (
   last-reads.Asked,
   last-reads.Learnt,
+  machine-below t,
+  machine.Post,
   is-seen-reads.Asked,
   is-seen-reads.Learnt,
   word-in-reads.Asked,
@@ -174,6 +192,20 @@ fby-calls t = (
   put-cell-reads.Learnt,
   choose-reads.Asked,
   choose-reads.Learnt,
+)
+
+abbrev machine-calls : ℕ → machine-lts.Claims
+machine-calls t = (
+  is-second-state-reads.Asked,
+  is-second-state-reads.Learnt,
+  rest-if-reads.Asked,
+  rest-if-reads.Learnt,
+  expression-below t,
+  expression.Post,
+  by-kind-below t,
+  by-kind.Post,
+  put-cell-reads.Asked,
+  put-cell-reads.Learnt,
 )
 
 abbrev operation-calls : ℕ → operation-lts.Claims
@@ -362,13 +394,30 @@ module _ (t : ℕ) where
   fby-shared-slice-read-if1 : fby-lts.Need-shared-slice-read-if1 (fby-calls t) (fby-at t) fby.Post
   fby-shared-slice-read-if1 c = opened (c .before .before .before .pre .1 .0 .place) .good .starts
 
+  fby-shared-slice-read-if2 : fby-lts.Need-shared-slice-read-if2 (fby-calls t) (fby-at t) fby.Post
+  fby-shared-slice-read-if2 c = opened (c .before .before .before .before .before .pre .1 .0 .place) .good .starts
+
   fby-advance-last-requires : fby-lts.Need-advance-last-requires (fby-calls t) (fby-at t) fby.Post
-  fby-advance-last-requires c κs = last-of (c .before .before .before .before .pre .1 .0 .place) (c .if1 .taken)
+  fby-advance-last-requires c κs = last-of (c .before .before .before .before .before .before .pre .1 .0 .place) (c .if2 .taken)
 
   fby-returns : fby-lts.Need-returns (fby-calls t) (fby-at t) fby.Post
   fby-returns c =
-      let start = c .before .before .before .before .before in
-      λ p. last-advances p (start .args .fresh) (c .before .if1 .taken) (c .advance-last .ensures)
+      let start = c .before .before .before .before .before .before .before in
+      λ p. last-advances p (start .args .fresh) (c .before .if2 .taken) (c .advance-last .ensures)
+
+  fby-advance-machine-requires : fby-lts.Need-advance-machine-requires (fby-calls t) (fby-at t) fby.Post
+  fby-advance-machine-requires c κs =
+      let last = c .before in
+      let kind = last .before .before in
+      let start = kind .before .before .before .before in
+      let is = only-machine (kind .if1 .taken) (opened (start .pre .1 .0 .place) .good .kind) (last .if2 .left) in
+      (omega (arith, start .pre .0), (start .pre .1 .0, is))
+
+  fby-same-length : fby-lts.Need-same-length (fby-calls t) (fby-at t) fby.Post
+  fby-same-length c = c .before .before .advance-machine .kept .1 .0
+
+  fby-returns-2 : fby-lts.Need-returns-2 (fby-calls t) (fby-at t) fby.Post
+  fby-returns-2 c = c .before .before .advance-machine .ensures
 
   fby-sub-below : fby-lts.Need-sub-below (fby-calls t) (fby-at t) fby.Post
   fby-sub-below c = opened (c .before .before .before .before .pre .1 .0 .place) .level-left
@@ -384,21 +433,21 @@ module _ (t : ℕ) where
       let kind = c .before in
       let start = kind .before .before .before .before in
       let p = start .pre .1 .0 .place in
-      own-cell p (omega (arith, start .pre .1 .1)) (below-last (opened p .good .kind) (kind .if1 .left)) .stands .fits
+      own-cell p (omega (arith, start .pre .1 .1)) (omega (arith, kind .if1 .left)) .stands .fits
 
   fby-word-in-requires : fby-lts.Need-word-in-requires (fby-calls t) (fby-at t) fby.Post
   fby-word-in-requires c κs =
       let kind = c .before .before .before in
       let start = kind .before .before .before .before in
       let p = start .pre .1 .0 .place in
-      own-cell p (omega (arith, start .pre .1 .1)) (below-last (opened p .good .kind) (kind .if1 .left)) .stands .fits
+      own-cell p (omega (arith, start .pre .1 .1)) (omega (arith, kind .if1 .left)) .stands .fits
 
   fby-advance-expression-requires : fby-lts.Need-advance-expression-requires (fby-calls t) (fby-at t) fby.Post
   fby-advance-expression-requires c κs =
       let kind = c .before .before .before .before .before in
       let start = kind .before .before .before .before in
       let p = start .pre .1 .0 in
-      let w = fby-view (p .place) (only-fby (start .pre .1 .1) (opened (p .place) .good .kind) (kind .if1 .left)) in
+      let w = fby-view (p .place) (only-fby (start .pre .1 .1) (kind .if1 .left)) in
       (omega (arith, start .pre .0, opened (p .place) .level-left), two-ready p w)
 
   fby-advance-expression-requires-2 : fby-lts.Need-advance-expression-requires-2 (fby-calls t) (fby-at t) fby.Post
@@ -407,7 +456,7 @@ module _ (t : ℕ) where
       let kind = first .before .before .before .before .before .before in
       let start = kind .before .before .before .before in
       let p = start .pre .1 .0 in
-      let w = fby-view (p .place) (only-fby (start .pre .1 .1) (opened (p .place) .good .kind) (kind .if1 .left)) in
+      let w = fby-view (p .place) (only-fby (start .pre .1 .1) (kind .if1 .left)) in
       (omega (arith, start .pre .0, opened (p .place) .level-left), two-ready-2 p w (first .advance-expression .ensures))
 
   fby-datum-of-requires : fby-lts.Need-datum-of-requires (fby-calls t) (fby-at t) fby.Post
@@ -420,21 +469,21 @@ module _ (t : ℕ) where
       let kind = first .before .before .before .before .before .before in
       let start = kind .before .before .before .before in
       let p = start .pre .1 .0 .place in
-      let own = own-cell p (omega (arith, start .pre .1 .1)) (below-last (opened p .good .kind) (kind .if1 .left)) in
+      let own = own-cell p (omega (arith, start .pre .1 .1)) (omega (arith, kind .if1 .left)) in
       omega (arith, own .stands .fits, second .advance-expression2 .kept .1 .0, first .advance-expression .kept .1 .0)
 
   fby-choose-requires : fby-lts.Need-choose-requires (fby-calls t) (fby-at t) fby.Post
   fby-choose-requires c κs = search needs
 
-  fby-same-length : fby-lts.Need-same-length (fby-calls t) (fby-at t) fby.Post
-  fby-same-length c =
+  fby-same-length-2 : fby-lts.Need-same-length-2 (fby-calls t) (fby-at t) fby.Post
+  fby-same-length-2 c =
       let put = c .before .before .before in
       let second = put .before .before .before .before .before in
       let first = second .before .before .before .before in
       put .put-cell .kept .0 ∙ second .advance-expression2 .kept .1 .0 ∙ first .advance-expression .kept .1 .0
 
-  fby-returns-2 : fby-lts.Need-returns-2 (fby-calls t) (fby-at t) fby.Post
-  fby-returns-2 c =
+  fby-returns-3 : fby-lts.Need-returns-3 (fby-calls t) (fby-at t) fby.Post
+  fby-returns-3 c =
       let put = c .before .before .before in
       let datum = put .before in
       let second = datum .before .before .before .before in
@@ -443,9 +492,135 @@ module _ (t : ℕ) where
       let seen = held .before .before in
       let kind = seen .before .before in
       let start = kind .before .before .before .before in
-      λ p. fby-advances p (start .args .fresh) (only-fby (start .pre .1 .1) (opened (p .place) .good .kind) (kind .if1 .left))
+      λ p. fby-advances p (start .args .fresh) (only-fby (start .pre .1 .1) (kind .if1 .left))
       (seen .is-seen .ensures) (held .word-in .ensures) (first .advance-expression .ensures) (second .advance-expression2 .ensures)
       (datum .datum-of .ensures) (put .put-cell .ensures) (c .choose .ensures)
+
+  machine-sub-below : machine-lts.Need-sub-below (machine-calls t) (machine-at t) machine.Post
+  machine-sub-below c = opened (c .before .before .pre .1 .0 .place) .level-left
+
+  machine-add-first : machine-lts.Need-add-first (machine-calls t) (machine-at t) machine.Post
+  machine-add-first c = omega (arith, opened (c .before .before .pre .1 .0 .place) .good .starts)
+
+  machine-add-inner : machine-lts.Need-add-inner (machine-calls t) (machine-at t) machine.Post
+  machine-add-inner c = omega (arith, opened (c .before .before .pre .1 .0 .place) .good .cells)
+
+  machine-is-second-state-requires : machine-lts.Need-is-second-state-requires (machine-calls t) (machine-at t) machine.Post
+  machine-is-second-state-requires c κs =
+      let start = c .before .before .before in
+      state-cell (start .pre .1 .0 .place) (start .pre .1 .1) .stands .fits
+
+  machine-rest-if-requires : machine-lts.Need-rest-if-requires (machine-calls t) (machine-at t) machine.Post
+  machine-rest-if-requires c κs =
+      let state = c .before in
+      let start = state .before .before .before .before in
+      λ holds. first-condition (start .pre .1 .0) (start .args .fresh) (start .pre .1 .1) (state .is-second-state .ensures)
+
+  machine-advance-expression-requires : machine-lts.Need-advance-expression-requires (machine-calls t) (machine-at t) machine.Post
+  machine-advance-expression-requires c κs =
+      let begin = c .before .before .before in
+      let state = begin .before .before in
+      let start = state .before .before .before .before in
+      let p = start .pre .1 .0 in (
+        omega (arith, start .pre .0, opened (p .place) .level-left),
+        condition-ready p (start .args .fresh) (start .pre .1 .1) (state .is-second-state .ensures) (begin .rest-if .ensures),
+      )
+
+  machine-rest-if-requires-2 : machine-lts.Need-rest-if-requires-2 (machine-calls t) (machine-at t) machine.Post
+  machine-rest-if-requires-2 c κs =
+      let condition = c .before .before .before in
+      let begin = condition .before .before .before .before in
+      let state = begin .before .before in
+      let start = state .before .before .before .before in
+      second-condition (start .pre .1 .0) (start .args .fresh) (start .pre .1 .1) (state .is-second-state .ensures)
+      (begin .rest-if .ensures) (condition .advance-expression .ensures)
+
+  machine-rest-if-requires-3 : machine-lts.Need-rest-if-requires-3 (machine-calls t) (machine-at t) machine.Post
+  machine-rest-if-requires-3 c κs =
+      let bodies = c .before .before .before .before in
+      let condition = bodies .before .before .before .before in
+      let begin = condition .before .before .before .before in
+      let state = begin .before .before in
+      let start = state .before .before .before .before in
+      λ holds. first-body (start .pre .1 .0) (start .args .fresh) (start .pre .1 .1) (state .is-second-state .ensures)
+      (begin .rest-if .ensures) (condition .advance-expression .ensures) (bodies .rest-if2 .ensures)
+
+  machine-advance-by-kind-requires : machine-lts.Need-advance-by-kind-requires (machine-calls t) (machine-at t) machine.Post
+  machine-advance-by-kind-requires c κs =
+      let run = c .before .before .before in
+      let bodies = run .before .before .before .before .before in
+      let condition = bodies .before .before .before .before in
+      let begin = condition .before .before .before .before in
+      let state = begin .before .before in
+      let start = state .before .before .before .before in
+      let p = start .pre .1 .0 in (
+        omega (arith, start .pre .0, opened (p .place) .level-left),
+        body-ready p (start .args .fresh) (start .pre .1 .1) (state .is-second-state .ensures)
+            (begin .rest-if .ensures) (condition .advance-expression .ensures) (bodies .rest-if2 .ensures) (run .rest-if3 .ensures),
+      )
+
+  machine-rest-if-requires-4 : machine-lts.Need-rest-if-requires-4 (machine-calls t) (machine-at t) machine.Post
+  machine-rest-if-requires-4 c κs =
+      let body = c .before .before .before in
+      let run = body .before .before .before .before in
+      let bodies = run .before .before .before .before .before in
+      let condition = bodies .before .before .before .before in
+      let begin = condition .before .before .before .before in
+      let state = begin .before .before in
+      let start = state .before .before .before .before in
+      second-body (start .pre .1 .0) (start .args .fresh) (start .pre .1 .1) (state .is-second-state .ensures)
+      (begin .rest-if .ensures) (condition .advance-expression .ensures) (bodies .rest-if2 .ensures) (run .rest-if3 .ensures)
+      (body .advance-by-kind .ensures)
+
+  machine-put-cell-requires : machine-lts.Need-put-cell-requires (machine-calls t) (machine-at t) machine.Post
+  machine-put-cell-requires c κs =
+      let end = c .before .before .before in
+      let body = end .before .before .before .before in
+      let run = body .before .before .before .before in
+      let bodies = run .before .before .before .before .before in
+      let condition = bodies .before .before .before .before in
+      let begin = condition .before .before .before .before in
+      let state = begin .before .before in
+      let start = state .before .before .before .before in
+      let own = state-cell (start .pre .1 .0 .place) (start .pre .1 .1) in
+      omega (
+        arith,
+        own .stands .fits,
+        end .rest-if4 .kept .1 .1 .1 .1 .1 .0,
+        body .advance-by-kind .kept .1 .0,
+        run .rest-if3 .kept .1 .1 .1 .1 .1 .0,
+        bodies .rest-if2 .kept .1 .1 .1 .1 .1 .0,
+        condition .advance-expression .kept .1 .0,
+        begin .rest-if .kept .1 .1 .1 .1 .1 .0,
+      )
+
+  machine-same-length : machine-lts.Need-same-length (machine-calls t) (machine-at t) machine.Post
+  machine-same-length c =
+      let put = c .before .before in
+      let end = put .before .before .before .before in
+      let body = end .before .before .before .before in
+      let run = body .before .before .before .before in
+      let bodies = run .before .before .before .before .before in
+      let condition = bodies .before .before .before .before in
+      let begin = condition .before .before .before .before in
+      put .put-cell .kept .0 ∙ end .rest-if4 .kept .1 .1 .1 .1 .1 .0 ∙ body .advance-by-kind .kept .1 .0
+      ∙ run .rest-if3 .kept .1 .1 .1 .1 .1 .0 ∙ bodies .rest-if2 .kept .1 .1 .1 .1 .1 .0 ∙ condition .advance-expression .kept .1 .0
+      ∙ begin .rest-if .kept .1 .1 .1 .1 .1 .0
+
+  machine-returns : machine-lts.Need-returns (machine-calls t) (machine-at t) machine.Post
+  machine-returns c =
+      let put = c .before .before in
+      let end = put .before .before .before .before in
+      let body = end .before .before .before .before in
+      let run = body .before .before .before .before in
+      let bodies = run .before .before .before .before .before in
+      let condition = bodies .before .before .before .before in
+      let begin = condition .before .before .before .before in
+      let state = begin .before .before in
+      let start = state .before .before .before .before in
+      λ p. machine-advances p (start .args .fresh) (start .pre .1 .1) (state .is-second-state .ensures) (begin .rest-if .ensures)
+      (condition .advance-expression .ensures) (bodies .rest-if2 .ensures) (run .rest-if3 .ensures) (body .advance-by-kind .ensures)
+      (end .rest-if4 .ensures) (put .put-cell .ensures)
 
   operation-shared-slice-read-kind : operation-lts.Need-shared-slice-read-kind (operation-calls t) (operation-at t) operation.Post
   operation-shared-slice-read-kind c = opened (c .before .before .before .pre .1 .0 .place) .good .starts
@@ -714,9 +889,9 @@ module _ (t : ℕ) where
   expression-returns-2 : expression-lts.Need-returns-2 (expression-calls t) (expression-at t) expression.Post
   expression-returns-2 c = c .before .before .advance-by-kind .ensures
 
-pub +advance-by-kind+advance-conditional+advance-expression+advance-held+advance-operation+advance-pre+advance-present+advance-reset-spec : {M : Type 1} → statement M
-+advance-by-kind+advance-conditional+advance-expression+advance-held+advance-operation+advance-pre+advance-present+advance-reset-spec =
-    close μ-by-kind μ-conditional μ-expression μ-fby μ-operation μ-pre μ-present μ-reset
+pub +advance-by-kind+advance-conditional+advance-expression+advance-held+advance-machine+advance-operation+advance-pre+advance-present+advance-reset-spec : {M : Type 1} → statement M
++advance-by-kind+advance-conditional+advance-expression+advance-held+advance-machine+advance-operation+advance-pre+advance-present+advance-reset-spec =
+    close μ-by-kind μ-conditional μ-expression μ-fby μ-machine μ-operation μ-pre μ-present μ-reset
     (λ t. by-kind-lts.spec (by-kind-calls t) (by-kind-at t) by-kind.Post
     (by-kind-shared-slice-read-match t) (by-kind-advance-conditional-requires t) (by-kind-advance-present-requires t)
     (by-kind-advance-reset-requires t) (by-kind-advance-leaf-requires t) (by-kind-advance-operation-requires t)
@@ -732,10 +907,16 @@ pub +advance-by-kind+advance-conditional+advance-expression+advance-held+advance
     (expression-shared-slice-read-if1 t) (expression-advance-leaf-requires t) (expression-returns t)
     (expression-advance-by-kind-requires t) (expression-same-length t) (expression-returns-2 t))
     (λ t. fby-lts.spec (fby-calls t) (fby-at t) fby.Post
-    (fby-shared-slice-read-if1 t) (fby-advance-last-requires t) (fby-returns t) (fby-sub-below t) (fby-add-first t)
+    (fby-shared-slice-read-if1 t) (fby-shared-slice-read-if2 t) (fby-advance-last-requires t) (fby-returns t)
+    (fby-advance-machine-requires t) (fby-same-length t) (fby-returns-2 t) (fby-sub-below t) (fby-add-first t)
     (fby-add-inner t) (fby-is-seen-requires t) (fby-word-in-requires t) (fby-advance-expression-requires t)
     (fby-advance-expression-requires-2 t) (fby-datum-of-requires t) (fby-put-cell-requires t) (fby-choose-requires t)
-    (fby-same-length t) (fby-returns-2 t))
+    (fby-same-length-2 t) (fby-returns-3 t))
+    (λ t. machine-lts.spec (machine-calls t) (machine-at t) machine.Post
+    (machine-sub-below t) (machine-add-first t) (machine-add-inner t) (machine-is-second-state-requires t)
+    (machine-rest-if-requires t) (machine-advance-expression-requires t) (machine-rest-if-requires-2 t)
+    (machine-rest-if-requires-3 t) (machine-advance-by-kind-requires t) (machine-rest-if-requires-4 t)
+    (machine-put-cell-requires t) (machine-same-length t) (machine-returns t))
     (λ t. operation-lts.spec (operation-calls t) (operation-at t) operation.Post
     (operation-shared-slice-read-kind t) (operation-operation-type-requires t) (operation-sub-below t) (operation-add-first t)
     (operation-advance-expression-requires t) (operation-unary-requires t)

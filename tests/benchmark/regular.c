@@ -51,14 +51,20 @@ static void put_header(struct sheet *sheet, unsigned inputs, unsigned wires, uns
         sheet->schedule[wire] = (uint8_t)wire;
 }
 
+/* All bytes of a sheet, in place of those that are there. */
+static void take_bytes(struct sheet *sheet, const uint8_t *bytes, size_t length)
+{
+    memcpy(sheet->bytes, bytes, length);
+    sheet->length = length;
+}
+
 void make_quarter(struct group *group)
 {
     struct sheet *const sheet = single(group, "quarter sheet");
     static const uint8_t bytes[] = {2,  0, 0, 2, 1, 1, 2, 0, 1, 14, 3, 1, 8, 16, 0, 0, 0, 0,  2, 0,
                                     12, 3, 0, 1, 1, 0, 0, 0, 1, 0,  0, 0, 0, 16, 0, 0, 0, 0, 2, 0};
     put_header(sheet, 2, 2, number_wire, 2);
-    memcpy(sheet->bytes, bytes, sizeof bytes);
-    sheet->length = sizeof bytes;
+    take_bytes(sheet, bytes, sizeof bytes);
     sheet->input[0] = 1;
 }
 
@@ -163,4 +169,15 @@ void make_machines(struct group *group)
             put_number(sheet, 1, 3);
     }
     sheet->input[0] = 40;
+}
+
+void make_relay(struct group *group)
+{
+    struct sheet *const sheet = single(group, "relay");
+    static const uint8_t bytes[] = {2, 0,  0, 3, 0, 1, 0, 2, 1, 2,  15, 0, 3, 0,  14, 3, 1, 19, 6, 3, 0,
+                                    2, 0,  4, 7, 3, 0, 2, 0, 9, 16, 0,  0, 0, 0,  2,  1, 1, 1,  0, 0, 0,
+                                    8, 16, 0, 0, 0, 0, 2, 1, 1, 1,  0,  0, 0, 10, 1,  0, 0, 0,  0, 2, 1};
+    put_header(sheet, 2, 3, number_wire, 2);
+    take_bytes(sheet, bytes, sizeof bytes);
+    sheet->input[0] = 1;
 }

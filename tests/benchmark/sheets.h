@@ -29,6 +29,9 @@ struct group {
 /* Makes a call with the sheet's buffers. */
 uint32_t call_of(const struct implementation *implementation, enum call call, struct sheet *sheet);
 
+/* Starts the memories of a group that has none yet. */
+void start_group(struct group *group);
+
 /* Fills a group whose bytes are all 0. */
 typedef void group_maker(struct group *group);
 
@@ -45,6 +48,8 @@ group_maker make_kept;
 /* regular.c: each wire is kept and a machine, which counts up until its last is above the input, and then down, by the wire at half its
  * number, until its last is below 0: 64 cells. */
 group_maker make_machines;
+/* regular.c: the relay of examples/machine. Only boards have it. */
+group_maker make_relay;
 /* irregular.c: eight random sheets of about 2,000 bytes, and eight of about 4,000. */
 group_maker make_irregular_2000;
 group_maker make_irregular_4000;

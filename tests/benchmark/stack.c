@@ -10,10 +10,11 @@
 
 enum { stack_bytes = 1 << 18, paint = 0xa5 };
 
-/* Without a sheet nothing is called. */
+/* A call of a sheet, or a tick of a board; without either nothing is called. */
 struct job {
     enum call call;
     struct sheet *sheet;
+    struct board *board;
     uint32_t answer;
 };
 
@@ -22,6 +23,8 @@ static void *run_job(void *data)
     struct job *const job = data;
     if (job->sheet != NULL)
         job->answer = call_of(&library, job->call, job->sheet);
+    if (job->board != NULL)
+        job->answer = tick_of(&library, job->board);
     return NULL;
 }
 
@@ -43,25 +46,39 @@ static size_t depth_of(struct job *job)
     return sizeof stack - untouched;
 }
 
-static size_t deepest_of(enum call call, struct group *group)
+static size_t greater(size_t first, size_t second)
 {
-    size_t deepest = 0;
-    for (unsigned index = 0; index < group->count; index++) {
-        struct job job = {call, &group->sheets[index], 0};
-        const size_t depth = depth_of(&job);
-        deepest = depth > deepest ? depth : deepest;
-    }
-    return deepest;
+    return first > second ? first : second;
+}
+
+/* What the thread takes by itself. */
+static size_t depth_of_nothing(void)
+{
+    struct job nothing = {calls, NULL, NULL, 0};
+    return depth_of(&nothing);
 }
 
 size_t stack_of_call(enum call call, struct group *groups, unsigned count)
 {
-    struct job nothing = {call, NULL, 0};
-    const size_t base = depth_of(&nothing);
+    const size_t base = depth_of_nothing();
+    size_t deepest = base;
+    for (unsigned group = 0; group < count; group++) {
+        for (unsigned index = 0; index < groups[group].count; index++) {
+            struct job job = {call, &groups[group].sheets[index], NULL, 0};
+            deepest = greater(deepest, depth_of(&job));
+        }
+    }
+    return deepest - base;
+}
+
+size_t stack_of_tick(struct board *boards, unsigned count)
+{
+    const size_t base = depth_of_nothing();
     size_t deepest = base;
     for (unsigned index = 0; index < count; index++) {
-        const size_t depth = deepest_of(call, &groups[index]);
-        deepest = depth > deepest ? depth : deepest;
+        struct job job = {call_tick, NULL, &boards[index], 0};
+        for (unsigned tick = 0; tick < boards[index].count; tick++)
+            deepest = greater(deepest, depth_of(&job));
     }
     return deepest - base;
 }

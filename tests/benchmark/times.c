@@ -36,9 +36,16 @@ static double median(double *times)
     return times[samples / 2];
 }
 
+/* What a line times: a call of a group's sheets or, where there is one, the tick of a board. */
+struct timed {
+    enum call call;
+    const struct group *group;
+    const struct board *board;
+};
+
 /* The time of one call, over all sheets of a group in turn. Each sample begins from the buffers as the group has them, so that every
  * implementation goes through the same instants. */
-static double time_of(const struct implementation *implementation, enum call call, const struct group *group, unsigned turns)
+static double time_of_calls(const struct implementation *implementation, enum call call, const struct group *group, unsigned turns)
 {
     static struct group copy;
     copy = *group;
@@ -50,21 +57,39 @@ static double time_of(const struct implementation *implementation, enum call cal
     return (now() - start) / turns / copy.count;
 }
 
+/* The same of one tick; in a turn every sheet of the board has one. */
+static double time_of_ticks(const struct implementation *implementation, const struct board *board, unsigned turns)
+{
+    static struct board copy;
+    copy = *board;
+    const double start = now();
+    for (unsigned tick = 0; tick < turns * copy.count; tick++)
+        sink += tick_of(implementation, &copy);
+    return (now() - start) / turns / copy.count;
+}
+
+static double time_of(const struct implementation *implementation, const struct timed *timed, unsigned turns)
+{
+    if (timed->board != NULL)
+        return time_of_ticks(implementation, timed->board, turns);
+    return time_of_calls(implementation, timed->call, timed->group, turns);
+}
+
 void print_head_of_times(void)
 {
     printf("| call      | sheet                  | ours (ns) |    C (ns) | ratio | which C   |\n|---|---|---|---|---|---|\n");
 }
 
-/* Sampled in turn, so that whatever else the machine does falls on all. */
-void print_times(enum call call, const struct group *group)
+/* Sampled in turn, so that whatever else the machine does falls on all. A turn makes that many calls. */
+static void print_line(const struct timed *timed, const char *name, unsigned calls_of_turn)
 {
     double of_library[samples], of_yardstick[yardsticks][samples], times[yardsticks];
-    const double once = time_of(yardstick[0].implementation, call, group, 10) * group->count;
+    const double once = time_of(yardstick[0].implementation, timed, 10) * calls_of_turn;
     const unsigned turns = (unsigned)(nanoseconds_of_sample / once) + 1;
     for (unsigned sample = 0; sample < samples; sample++) {
-        of_library[sample] = time_of(&library, call, group, turns);
+        of_library[sample] = time_of(&library, timed, turns);
         for (unsigned index = 0; index < yardsticks; index++)
-            of_yardstick[index][sample] = time_of(yardstick[index].implementation, call, group, turns);
+            of_yardstick[index][sample] = time_of(yardstick[index].implementation, timed, turns);
     }
     unsigned fastest = 0;
     for (unsigned index = 0; index < yardsticks; index++) {
@@ -72,6 +97,18 @@ void print_times(enum call call, const struct group *group)
         fastest = times[index] < times[fastest] ? index : fastest;
     }
     const double ours = median(of_library);
-    printf("| %-9s | %-22s | %9.0f | %9.0f | %5.2f | %-9s |\n", rules_of[call].name, group->name, ours, times[fastest],
+    printf("| %-9s | %-22s | %9.0f | %9.0f | %5.2f | %-9s |\n", rules_of[timed->call].name, name, ours, times[fastest],
            ours / times[fastest], yardstick[fastest].name);
+}
+
+void print_times(enum call call, const struct group *group)
+{
+    const struct timed timed = {call, group, NULL};
+    print_line(&timed, group->name, group->count);
+}
+
+void print_times_of_ticks(const struct board *board)
+{
+    const struct timed timed = {call_tick, NULL, board};
+    print_line(&timed, board->name, board->count);
 }

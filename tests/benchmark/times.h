@@ -1,8 +1,8 @@
-/* How long a call takes. Rests on the sheets. */
+/* How long a call takes. Rests on the sheets and the boards. */
 #ifndef BENCHMARK_TIMES_H
 #define BENCHMARK_TIMES_H
 
-#include "benchmark/sheets.h"
+#include "benchmark/boards.h"
 
 enum { yardsticks = 2 };
 
@@ -18,5 +18,8 @@ void print_head_of_times(void);
 
 /* Prints the line of a call and a group: the library's time for one call, that of the faster yardstick, and the ratio. */
 void print_times(enum call call, const struct group *group);
+
+/* That of the tick and a board. */
+void print_times_of_ticks(const struct board *board);
 
 #endif

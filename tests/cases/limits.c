@@ -1,7 +1,8 @@
-/* The limits of a sheet, each met and overstepped: wires, levels, cells, bytes, inputs, outputs. Rests on the chain of 64 wires and
- * on sheets of its own.
+/* The limits of a sheet, each met and overstepped: wires, levels, cells, bytes, inputs, outputs. Rests on the chain of 64 wires, on the
+ * sheets at the limits and on sheets of its own.
  */
 #include "cases/chains.h"
+#include "cases/limits.h"
 #include "cases/rows.h"
 
 #define WIRES_64 0, 64, TIMES_64(1), 1, 0, TIMES_64(1, 7, 0, 0, 0)
@@ -20,21 +21,10 @@
 #define RESETS_TO_LEVEL_16 0, 1, 1, 1, 0, TIMES_15(14, 0, 0), 1, 9, 0, 0, 0
 #define RESETS_TO_LEVEL_17 0, 1, 1, 1, 0, TIMES_16(14, 0, 0), 1, 9, 0, 0, 0
 
-/* Sixty-four wires, each a pre of false; in the second sheet the last is a pre of a pre. */
-#define CELLS_64 0, 64, TIMES_64(0), 1, 63, TIMES_64(15, 0, 0, 0)
+/* As CELLS_64, but the last is a pre of a pre. */
 #define CELLS_65 0, 64, TIMES_64(0), 1, 63, TIMES_63(15, 0, 0, 0), 15, 0, 15, 0, 0, 0
 
-/* A sum of ten ones takes 59 bytes and ten levels; with three negates 62, with six 65. So 69
- * bytes of header, 19 wires of 65, one of 64 and 44 of 62 are 4,096 bytes. */
-#define SUM_OF_TEN TIMES_8(8, 1, 1, 0, 0, 0), 8, 1, 1, 0, 0, 0, 1, 1, 0, 0, 0
-#define WIRE_OF_62 5, 5, 5, SUM_OF_TEN
-#define WIRE_OF_65 5, 5, 5, WIRE_OF_62
-#define LENGTH_4096                                                                              \
-    0, 64, TIMES_64(1), 2, 0, 63, TIMES_16(WIRE_OF_65), TWICE(WIRE_OF_65), WIRE_OF_65,           \
-        5, 5, WIRE_OF_62, TIMES_32(WIRE_OF_62), TIMES_8(WIRE_OF_62), TIMES_4(WIRE_OF_62)
-
 #define INPUTS_0 0, 1, 1, 1, 0, 1, 3, 0, 0, 0
-#define INPUTS_16 16, TIMES_15(0), 1, 1, 1, 1, 0, 3, 15
 #define INPUTS_17 17, TIMES_16(0), 1, 1, 1, 1, 0, 3, 16
 #define OUTPUTS_0 0, 1, 1, 0, 1, 3, 0, 0, 0
 #define OUTPUTS_16                                                                            \

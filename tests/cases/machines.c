@@ -17,7 +17,6 @@
 #define RESTING_NUMBER 19, NEVER, NEVER, CONSTANT(1), CONSTANT(2)
 #define RESTING_BOOLEAN 19, NEVER, NEVER, NEVER, ALWAYS
 
-#define TIMES_7(...) TIMES_4(__VA_ARGS__), TWICE(__VA_ARGS__), __VA_ARGS__
 #define TIMES_14(...) TWICE(TIMES_7(__VA_ARGS__))
 
 /* Machines in body 1 of one another, fifteen of ten bytes each, the last on level 15, and 9 on level 16; then sixteen. */

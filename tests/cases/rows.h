@@ -11,7 +11,7 @@ struct bytes {
     size_t length;
 };
 
-/* Either refused at a place, or accepted with an answer, and then with these bytes afterwards. */
+/* Either refused at a place, or accepted with an answer, and then with these bytes afterwards; a state also where 20 is refused. */
 struct row {
     const char *name;
     enum call call;
@@ -20,12 +20,15 @@ struct row {
     struct bytes input;
     size_t output_length;
     struct bytes schedule;
+    struct bytes board;
+    struct bytes state;
     uint32_t refused;
     uint32_t place;
     uint32_t answer;
     struct bytes memory_after;
     struct bytes output_after;
     struct bytes schedule_after;
+    struct bytes state_after;
 };
 
 struct table {
@@ -35,8 +38,9 @@ struct table {
 
 #define TABLE(rows) {rows, sizeof(rows) / sizeof(rows)[0]}
 
-/* 2 to the 16th: a length above it by what is right would pass if only its lower sixteen bits were looked at. */
-enum { sixteen_bits = 65536 };
+/* 2 to the 16th: a length above it by what is right would pass if only its lower sixteen bits were looked at. And what a buffer holds where
+ * a row gives no bytes. */
+enum { sixteen_bits = 65536, rubbish = 170 };
 
 #define BYTES(...) {(const uint8_t[]){__VA_ARGS__}, sizeof((const uint8_t[]){__VA_ARGS__})}
 
@@ -69,6 +73,7 @@ enum { sixteen_bits = 65536 };
 
 #define TWICE(...) __VA_ARGS__, __VA_ARGS__
 #define TIMES_4(...) TWICE(TWICE(__VA_ARGS__))
+#define TIMES_7(...) TIMES_4(__VA_ARGS__), TWICE(__VA_ARGS__), __VA_ARGS__
 #define TIMES_8(...) TWICE(TIMES_4(__VA_ARGS__))
 #define TIMES_15(...) TIMES_8(__VA_ARGS__), TIMES_4(__VA_ARGS__), TWICE(__VA_ARGS__), __VA_ARGS__
 #define TIMES_16(...) TWICE(TIMES_8(__VA_ARGS__))

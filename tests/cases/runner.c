@@ -7,7 +7,7 @@
 #include <stdio.h>
 #include <string.h>
 
-enum { canary_bytes = 16, canary = 219, rubbish = 170, largest_buffer = sixteen_bits + 64 };
+enum { canary_bytes = 16, canary = 219, largest_buffer = sixteen_bits + 64 };
 
 struct guarded {
     uint8_t bytes[canary_bytes + largest_buffer + canary_bytes];
@@ -47,6 +47,8 @@ static struct bytes given_by(const struct row *row, enum role role)
         [role_input] = row->input,
         [role_output] = {NULL, row->output_length},
         [role_schedule] = row->schedule,
+        [role_board] = row->board,
+        [role_state] = row->state,
     };
     return given[role];
 }
@@ -54,11 +56,13 @@ static struct bytes given_by(const struct row *row, enum role role)
 /* What a row expects afterwards. */
 static const uint8_t *expected_by(const struct row *row, enum call call, enum role role)
 {
-    if (row->refused != 0 || (rules_of[call].writes >> role & 1) == 0)
-        return given_by(row, role).start;
-    if (role == role_memory)
-        return row->memory_after.start;
-    return role == role_output ? row->output_after.start : row->schedule_after.start;
+    const struct bytes after[roles] = {
+        [role_memory] = row->memory_after,
+        [role_output] = row->output_after,
+        [role_schedule] = row->schedule_after,
+        [role_state] = row->state_after,
+    };
+    return may_write(call, role, row->refused) ? after[role].start : given_by(row, role).start;
 }
 
 static bool all_hold(const struct row *row, enum call call, const struct guarded *buffers)
@@ -90,19 +94,44 @@ static bool passes(const struct row *row, enum call call)
     return true;
 }
 
+/* A board of two sheets up to the second, whose length comes last. */
+static const uint8_t board_up_to_second[] = {2, 7, 0, 0, 1, 0, 1, 0, ALWAYS, 0, 0};
+
+enum { place_of_second = sizeof board_up_to_second, longest_board = sixteen_bits - 1 };
+
+/* The sheet as the second of a board, where the place of its refusal is counted in the board. */
+static bool passes_in_board(const struct row *row)
+{
+    static uint8_t board[longest_board];
+    const size_t length = row->sheet.length;
+    memcpy(board, board_up_to_second, place_of_second);
+    board[place_of_second - 2] = (uint8_t)(length & 255);
+    board[place_of_second - 1] = (uint8_t)(length >> 8);
+    memcpy(board + place_of_second, row->sheet.start, length);
+    const struct row in_board = {.name = row->name, .board = {board, place_of_second + length}, .state = LENT(bytes_of_state),
+                                 .refused = row->refused, .place = place_of_second + row->place};
+    return passes(&in_board, call_tick);
+}
+
+static void count(struct tally *tally, bool passed)
+{
+    if (passed)
+        tally->passed++;
+    else
+        tally->failed++;
+}
+
 void run_table(const struct table *table, struct tally *tally)
 {
     for (size_t index = 0; index < table->count; index++) {
         const struct row *const row = &table->rows[index];
-        /* A sheet that the check refuses is refused alike by all the others; and each instant in rounds is previewed. */
+        /* A sheet that the check refuses is refused alike by all the others, and in a board; and each instant in rounds is previewed. */
         const bool by_all = row->call == call_check && row->refused != 0;
         const unsigned first = row->call == call_rounds ? call_preview : row->call;
-        const unsigned last = by_all ? calls - 1 : row->call;
-        for (unsigned call = first; call <= last; call++) {
-            if (passes(row, call))
-                tally->passed++;
-            else
-                tally->failed++;
-        }
+        const unsigned last = by_all ? calls_of_sheet - 1 : row->call;
+        for (unsigned call = first; call <= last; call++)
+            count(tally, passes(row, call));
+        if (by_all && row->sheet.length <= longest_board - place_of_second)
+            count(tally, passes_in_board(row));
     }
 }

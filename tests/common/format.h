@@ -18,7 +18,9 @@ enum {
     highest_input_type = 1,
     highest_wire_type = 3,
     bytes_of_number = 4,
-    bytes_of_cell = 5
+    bytes_of_cell = 5,
+    most_sheets = 8,
+    bytes_of_length = 2
 };
 
 enum kind {

@@ -14,13 +14,14 @@
 #define nuthatchbed_scheduled evaluator_scheduled
 #define probe_preview evaluator_preview
 #define probe_schedule evaluator_schedule
+#define probe_tick evaluator_tick
 #endif
 
 #include "common/calls.h"
 #include "common/probe.h"
 #include "nuthatchbed.h"
 
-static const struct implementation library = {nuthatchbed_check,  nuthatchbed_start,     probe_preview,
-                                              nuthatchbed_rounds, nuthatchbed_scheduled, probe_schedule};
+static const struct implementation library = {nuthatchbed_check,     nuthatchbed_start, probe_preview, nuthatchbed_rounds,
+                                              nuthatchbed_scheduled, probe_schedule,    probe_tick};
 
 #endif

@@ -16,4 +16,11 @@ uint32_t probe_schedule(const uint8_t *sheet, size_t sheet_length, uint8_t *list
 uint32_t probe_preview(const uint8_t *sheet, size_t sheet_length, const uint8_t *memory, size_t memory_length, const uint8_t *input,
                        size_t input_length, uint8_t *output, size_t output_length);
 
+/* A tick of a board of at most 65,535 bytes. The state has 8 bytes: the due marks, the restart marks, the stored marks and the number of
+ * the sheet served last, then the sheet that is served now; what follows is left. Answers the rounds of the sheet served, 0 where none is
+ * due, or a refusal 1 to 16, 20 or 22. Stored marks and number are written but for 1 to 16 and 22, the sheet served also with 20, and
+ * memory and output row only where one is served and accepted. With a state of another length it answers 0 and writes nothing. */
+uint32_t probe_tick(const uint8_t *board, size_t board_length, uint8_t *memory, size_t memory_length, const uint8_t *input,
+                    size_t input_length, uint8_t *output, size_t output_length, uint8_t *state, size_t state_length);
+
 #endif

@@ -5,6 +5,7 @@
 #define COMPARISON_CASE_H
 
 #include "comparison/harness.h"
+#include "generator/boards.h"
 #include "generator/sheets.h"
 
 /* A sheet with what is known of it. */
@@ -29,6 +30,9 @@ struct workspace {
     struct buffers previewed;
     struct buffers by_rounds;
     struct buffers by_schedule;
+    struct board board;
+    struct buffers ticked;
+    struct buffers tried;
 };
 
 /* A step of a case, made behind the check of its sheet; it does nothing where the sheet is not one for it. */
@@ -42,6 +46,16 @@ step compare_instants;
 
 /* maker.c: a schedule is asked for, also of a refused sheet, and must be there by what is known of the reads; an instant goes along it. */
 step compare_maker;
+
+/* One case in so many has a board, and one in so many of these its frame changed. */
+enum { cases_for_board = 50, cases_for_frames = 100 * cases_for_board };
+
+/* boards.c: now and then a board, whatever the sheet is: ticks that hand on memory, marks and number, some tried with damage first. */
+step compare_board;
+
+/* frames.c: now and then the board of the step before, with its count and each byte of its lengths changed to every value, cut at every
+ * place and made longer. */
+step compare_frames;
 
 /* ---- instants.c, for other steps too ---- */
 
@@ -74,6 +88,11 @@ void note_list_of_machines(struct harness *harness, const struct workspace *work
 
 /* The starting memory is in "given". */
 void demand_machine_start(struct harness *harness, const struct workspace *workspace);
+
+/* ---- damaged_boards.c ---- */
+
+/* The tick of "board" that stands in "given", with something damaged; "given" stays as it is. */
+void compare_damaged_tick(struct harness *harness, struct workspace *workspace);
 
 /* ---- ends.c ---- */
 

@@ -38,14 +38,9 @@ _Noreturn void report_mismatch(struct harness *harness, enum call call, const st
     exit(1);
 }
 
-static bool may_write(enum call call, enum role role, bool refused)
-{
-    return !refused && (rules_of[call].writes >> role & 1) != 0;
-}
-
 static void demand_same_buffers(struct harness *harness, enum call call, const struct buffers *before)
 {
-    const bool refused = harness->evaluator_answer >= first_refusal;
+    const uint32_t refused = harness->evaluator_answer / first_refusal;
     for (unsigned role = 0; role < roles; role++) {
         const struct buffer *const old = &before->of[role];
         const uint8_t *const bytes = content(&harness->library, role);

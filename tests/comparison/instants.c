@@ -8,8 +8,6 @@
 #include "generator/rows.h"
 #include "generator/spoiling.h"
 
-enum { refused_as_unknown = 20 };
-
 static void count_loop(unsigned long *count, const struct buffers *given, uint32_t place)
 {
     const struct buffer *const sheet = &given->of[role_sheet];
@@ -31,7 +29,7 @@ static void demand_few_rounds(struct harness *harness, const struct workspace *w
     unsigned long *const count = harness->statistics.count;
     if (subject->depth == 0)
         return;
-    if (rounds / first_refusal == refused_as_unknown)
+    if (rounds / first_refusal == refused_unknown)
         report_mismatch(harness, call_rounds, &workspace->given, "K6: refused 20, and yet there is a schedule");
     if (rounds >= first_refusal)
         return;
@@ -53,7 +51,7 @@ static uint32_t compare_rounds(struct harness *harness, struct workspace *worksp
     demand_few_rounds(harness, workspace, rounds);
     note_rounds_of_kept(harness, workspace, rounds);
     note_rounds_of_machines(harness, workspace, rounds);
-    if (rounds / first_refusal == refused_as_unknown)
+    if (rounds / first_refusal == refused_unknown)
         count_loop(count, given, rounds % first_refusal);
     if (rounds >= first_refusal)
         return rounds;

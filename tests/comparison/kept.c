@@ -10,14 +10,7 @@
 
 enum { kind_last = 18, highest_kept_type = 3 };
 
-enum {
-    refused_type = 4,
-    refused_body = 7,
-    refused_type_asked = 9,
-    refused_cells = 10,
-    refused_cell = 13,
-    refused_unknown = 20
-};
+enum { refused_type = 4, refused_body = 7, refused_type_asked = 9, refused_cells = 10, refused_cell = 13 };
 
 static const uint8_t kept_start[bytes_of_cell] = {1};
 

@@ -9,7 +9,7 @@
 
 enum { kind_machine = 19, first_kind_above = 20 };
 
-enum { refused_kind = 6, refused_cells = 10, refused_cell = 13, refused_unknown = 20 };
+enum { refused_kind = 6, refused_cells = 10, refused_cell = 13 };
 
 static bool has_machine(const struct subject *subject)
 {

@@ -1,6 +1,6 @@
-/* Compares the library with the evaluator on random and damaged sheets, memories, rows and schedules: the same answer and the same
- * bytes in every buffer, and directly demand 3 and what a made schedule is; then on pairs of numbers. Rests on the generator, the
- * harness and the steps.
+/* Compares the library with the evaluator on random and damaged sheets, memories, rows and schedules, and on boards of sheets: the same
+ * answer and the same bytes in every buffer, and directly demand 3, what a made schedule is and what a tick promises; then on pairs of
+ * numbers. Rests on the generator, the harness and the steps.
  *
  * Usage: compare [CASES] [SEED]
  */
@@ -17,7 +17,7 @@
 
 /* What is tried of each sheet once its check was compared, in this order: a step put at the end leaves the cases of those before it
  * as they are. */
-static step *const steps[] = {compare_refused_sheet, compare_instants, compare_maker};
+static step *const steps[] = {compare_refused_sheet, compare_instants, compare_maker, compare_board, compare_frames};
 
 enum { pairs_of_numbers = 1000000 };
 
@@ -25,14 +25,12 @@ enum { pairs_of_numbers = 1000000 };
 static bool make_sheet(struct harness *harness, struct workspace *workspace)
 {
     struct generator *const generator = &workspace->subject.generator;
-    memset(generator, 0, sizeof *generator);
-    generator->random = &harness->random;
-    generator->sheet = &workspace->given.of[role_sheet];
+    struct buffers *const given = &workspace->given;
     for (unsigned role = role_memory; role < roles; role++)
-        workspace->given.of[role].length = 0;
-    choose_plan(generator->random, &generator->plan);
+        given->of[role].length = 0;
+    prepare_generator(generator, &harness->random, &given->of[role_sheet]);
     const bool correct = generate_sheet(generator);
-    if (!percent(generator->random, 35))
+    if (!percent(&harness->random, 35))
         return correct;
     damage_sheet(generator);
     return false;

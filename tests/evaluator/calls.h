@@ -5,7 +5,7 @@
 #include "common/calls.h"
 #include "evaluator/evaluator.h"
 
-static const struct implementation evaluator = {evaluator_check,  evaluator_start,     evaluator_preview,
-                                                evaluator_rounds, evaluator_scheduled, evaluator_schedule};
+static const struct implementation evaluator = {evaluator_check,     evaluator_start,    evaluator_preview, evaluator_rounds,
+                                                evaluator_scheduled, evaluator_schedule, evaluator_tick};
 
 #endif

@@ -3,7 +3,7 @@
  * language.
  *
  * Each call answers one number: a refusal is its number times 65536 plus its place. After a refusal every buffer holds what it held
- * before. The buffers of one call must not overlap.
+ * before, but for the state of a tick. The buffers of one call must not overlap.
  */
 #ifndef EVALUATOR_H
 #define EVALUATOR_H
@@ -33,6 +33,11 @@ uint32_t evaluator_scheduled(const uint8_t *sheet, size_t sheet_length, uint8_t 
 
 /* Refusals 1 to 11, 17 and 21. Success answers the greatest depth and fills the list. */
 uint32_t evaluator_schedule(const uint8_t *sheet, size_t sheet_length, uint8_t *list, size_t list_length);
+
+/* Refusals 1 to 16, 20 and 22. Success answers the rounds of the sheet served, or 0 where none is due. The state is that of common/probe.h:
+ * but for 1 to 16 and 22 the stored marks and the number are written, and where a sheet is served, also refused 20, the sheet. */
+uint32_t evaluator_tick(const uint8_t *board, size_t board_length, uint8_t *memory, size_t memory_length, const uint8_t *input,
+                        size_t input_length, uint8_t *output, size_t output_length, uint8_t *state, size_t state_length);
 
 /* What else is to be said of an instant in rounds that is refused 20: the lowest unknown wire, the lowest unknown wire that reaches itself
  * by reads through unknown wires, and whether the wire that is named waits for itself directly. */

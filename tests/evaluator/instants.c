@@ -1,6 +1,6 @@
-/* The evaluator's calls but the maker: the checks of memory, rows and schedule, the rounds, the one pass along a schedule, and what they
- * write. Rests on reading.c for the sheet, on values.c for the wires, on waiting.c for those that loop and on storing.c for the next
- * memory.
+/* The evaluator's calls but the maker and the tick: the checks of memory, rows and schedule, the rounds, the one pass along a schedule,
+ * and what they write. Rests on reading.c for the sheet, on values.c for the wires, on waiting.c for those that loop and on storing.c for
+ * the next memory.
  */
 #include "evaluator/internal.h"
 
@@ -8,8 +8,7 @@
 
 /* ---- Memory, rows and schedule ---- */
 
-static uint32_t check_memory(const struct layout *layout, const uint8_t *memory,
-                             size_t memory_length)
+uint32_t check_memory(const struct layout *layout, const uint8_t *memory, size_t memory_length)
 {
     if (memory_length != (size_t)bytes_of_cell * layout->cells)
         return refusal(12, 0);
@@ -27,7 +26,7 @@ static uint32_t check_memory(const struct layout *layout, const uint8_t *memory,
     return 0;
 }
 
-static uint32_t check_input(const struct layout *layout, const uint8_t *input, size_t input_length)
+uint32_t check_input(const struct layout *layout, const uint8_t *input, size_t input_length)
 {
     if (input_length != (size_t)bytes_of_number * layout->inputs)
         return refusal(14, 0);

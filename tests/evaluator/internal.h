@@ -146,6 +146,12 @@ unsigned lowest_on_loop(const uint64_t *sets, unsigned wires);
 /* For each wire the unknown wires that it waits for, under the instant's wires, one bit each; a known one waits for none. */
 void find_waits(struct instant *instant, uint64_t *waits);
 
+/* ---- instants.c ---- */
+
+/* Refusals 12 and 13 of a memory, and 14 and 15 of an input row. */
+uint32_t check_memory(const struct layout *layout, const uint8_t *memory, size_t memory_length);
+uint32_t check_input(const struct layout *layout, const uint8_t *input, size_t input_length);
+
 /* ---- storing.c ---- */
 
 void start_cell(const struct layout *layout, unsigned cell, uint8_t *memory);

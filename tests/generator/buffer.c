@@ -38,6 +38,12 @@ void append_number(struct buffer *buffer, uint32_t number)
     buffer->length += bytes_of_number;
 }
 
+void append_buffer(struct buffer *to, const struct buffer *from)
+{
+    memcpy(to->bytes + to->length, from->bytes, from->length);
+    to->length += from->length;
+}
+
 void fill_with_rubbish(struct random *random, struct buffer *buffer, size_t length)
 {
     buffer->length = 0;

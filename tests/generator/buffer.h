@@ -7,7 +7,8 @@
 #include "common/calls.h"
 #include "generator/random.h"
 
-enum { largest_buffer = 8192, bytes_of_number = 4, bytes_of_cell = 5 };
+/* A board of eight of the longest sheets has 32,785 bytes, and damage makes it longer. */
+enum { largest_buffer = 40960, bytes_of_number = 4, bytes_of_cell = 5 };
 
 struct buffer {
     size_t length;
@@ -24,6 +25,7 @@ bool same_bytes(const struct buffer *first, const struct buffer *second);
 
 void append(struct buffer *buffer, unsigned byte);
 void append_number(struct buffer *buffer, uint32_t number);
+void append_buffer(struct buffer *to, const struct buffer *from);
 void put_number(uint8_t *bytes, uint32_t number);
 
 void fill_with_rubbish(struct random *random, struct buffer *buffer, size_t length);

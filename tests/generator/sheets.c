@@ -3,6 +3,8 @@
  */
 #include "generator/sheets.h"
 
+#include <string.h>
+
 static void generate_expression(struct generator *generator, unsigned asked, unsigned level, bool delayed, bool spine);
 
 static bool may_read(struct generator *generator, unsigned wire, bool delayed)
@@ -12,7 +14,7 @@ static bool may_read(struct generator *generator, unsigned wire, bool delayed)
     if (generator->plan.reading == reading_mixed && percent(generator->random, generator->plan.wild_share))
         return true;
     if (generator->falling)
-        return generator->rank[wire] > generator->rank[generator->wire];
+        return generator->plan.reading == reading_by_input || generator->rank[wire] > generator->rank[generator->wire];
     return generator->rank[wire] < generator->rank[generator->wire];
 }
 
@@ -218,6 +220,12 @@ static void generate_expression(struct generator *generator, unsigned asked, uns
         generate_node(generator, choose_kind(generator, asked), asked, level, delayed, spine);
 }
 
+/* Whether each wire chooses by input 0 how it reads the others. */
+static bool chooses_by_input(const struct plan *plan)
+{
+    return plan->reading == reading_two_way || plan->reading == reading_by_input;
+}
+
 /* Present input 0 do what reads by rising rank else what reads by falling. */
 static void generate_two_arms(struct generator *generator, unsigned asked)
 {
@@ -259,7 +267,7 @@ static void generate_wire_expression(struct generator *generator, unsigned wire)
     }
     generator->wire_end = generator->sheet->length + generator->plan.wire_bytes;
     generator->falling = false;
-    if (generator->plan.reading != reading_two_way)
+    if (!chooses_by_input(&generator->plan))
         generate_expression(generator, asked, 1, false, generator->plan.spine);
     else if (wants_machine(generator, 60))
         generate_two_bodies(generator, asked);
@@ -273,7 +281,7 @@ static void generate_header(struct generator *generator)
     struct buffer *const sheet = generator->sheet;
     append(sheet, generator->plan.inputs);
     for (unsigned input = 0; input < generator->plan.inputs; input++) {
-        const bool condition = generator->plan.reading == reading_two_way && input == 0;
+        const bool condition = chooses_by_input(&generator->plan) && input == 0;
         generator->input_types[input] = condition ? 0 : (uint8_t)below(random, 2);
         append(sheet, generator->input_types[input]);
     }
@@ -301,6 +309,14 @@ static void choose_ranks(struct generator *generator)
     shuffle(generator->random, generator->wire_of_rank, generator->plan.wires);
     for (unsigned rank = 0; rank < generator->plan.wires; rank++)
         generator->rank[generator->wire_of_rank[rank]] = (uint8_t)rank;
+}
+
+void prepare_generator(struct generator *generator, struct random *random, struct buffer *sheet)
+{
+    memset(generator, 0, sizeof *generator);
+    generator->random = random;
+    generator->sheet = sheet;
+    choose_plan(random, &generator->plan);
 }
 
 bool generate_sheet(struct generator *generator)

@@ -12,6 +12,7 @@ enum {
     most_wires = 64,
     most_outputs = 16,
     most_cells = 64,
+    most_cells_generated = 2 * most_cells,
     deepest_level = 16,
     longest_sheet = 4096
 };
@@ -21,7 +22,8 @@ enum reading {
     reading_backward, /* only wires of lower rank: a schedule exists */
     reading_mixed,    /* mostly so */
     reading_wild,     /* any wire */
-    reading_two_way   /* one arm or body by rising rank, the other by falling: cyclic, yet accepted */
+    reading_two_way,  /* one arm or body by rising rank, the other by falling: cyclic, yet accepted */
+    reading_by_input  /* one by rising rank, the other any wire: where input 0 does not hold, there may be loops */
 };
 
 /* What a kind 18 or a machine may stand under; an arm is that of an if or a present, a body that of a machine, and a condition any of theirs. */
@@ -29,7 +31,7 @@ enum above { above_pre, above_arm, above_condition, above_reset, above_left_of_f
 
 /* How a sheet is to be; the shares are in percent. Levels, cells and bytes may be above their limits, and then so is the sheet. */
 struct plan {
-    unsigned inputs; /* at least 1 for reading_two_way */
+    unsigned inputs; /* at least 1 for reading_two_way and reading_by_input */
     unsigned wires;
     unsigned outputs;
     unsigned deepest;
@@ -66,8 +68,8 @@ struct generator {
     uint8_t rank[most_wires];
     uint8_t wire_of_rank[most_wires];
     unsigned cells;
-    uint8_t cell_kind[largest_buffer]; /* 18 for that of a kept wire */
-    uint8_t cell_type[largest_buffer];
+    uint8_t cell_kind[most_cells_generated]; /* 18 for that of a kept wire */
+    uint8_t cell_type[most_cells_generated];
     unsigned kept_cell[most_wires];
     uint64_t reads[most_wires];
     uint64_t lasts[most_wires]; /* the wires that its kinds 18 name */
@@ -78,6 +80,9 @@ struct generator {
 };
 
 void choose_plan(struct random *random, struct plan *plan);
+
+/* Makes the generator ready for a sheet, with a plan drawn at random. */
+void prepare_generator(struct generator *generator, struct random *random, struct buffer *sheet);
 
 /* Answers whether the sheet keeps all the rules, so that the check has to accept it. */
 bool generate_sheet(struct generator *generator);

@@ -67,34 +67,40 @@ static void spoil_schedule(struct random *random, struct buffer *schedule)
     }
 }
 
+/* How one thing is spoilt: the length of a buffer, or what it holds. */
+static const struct manner {
+    enum role role;
+    void (*spoil)(struct random *random, struct buffer *buffer);
+} manners[] = {
+    {role_memory, spoil_length},     {role_input, spoil_length},
+    {role_output, spoil_length},     {role_schedule, spoil_length},
+    {role_memory, spoil_cells},      {role_memory, spoil_cells},
+    {role_input, spoil_input},       {role_input, spoil_input},
+    {role_schedule, spoil_schedule}, {role_schedule, spoil_schedule},
+};
+
+static const struct manner *choose_manner(struct random *random)
+{
+    return &manners[below(random, sizeof manners / sizeof manners[0])];
+}
+
 /* Two spoils in one call try the order in which the refusals are looked for. */
-void spoil_rows(struct random *random, struct buffers *buffers)
+static void spoil_some(struct random *random, struct buffers *buffers, bool schedule_too)
 {
     for (unsigned times = percent(random, 70) ? 1 : 2; times != 0; times--) {
-        switch (below(random, 10)) {
-        case 0:
-            spoil_length(random, &buffers->of[role_memory]);
-            break;
-        case 1:
-            spoil_length(random, &buffers->of[role_input]);
-            break;
-        case 2:
-            spoil_length(random, &buffers->of[role_output]);
-            break;
-        case 3:
-            spoil_length(random, &buffers->of[role_schedule]);
-            break;
-        case 4:
-        case 5:
-            spoil_cells(random, &buffers->of[role_memory]);
-            break;
-        case 6:
-        case 7:
-            spoil_input(random, &buffers->of[role_input]);
-            break;
-        default:
-            spoil_schedule(random, &buffers->of[role_schedule]);
-            break;
-        }
+        const struct manner *manner = choose_manner(random);
+        while (manner->role == role_schedule && !schedule_too)
+            manner = choose_manner(random);
+        manner->spoil(random, &buffers->of[manner->role]);
     }
+}
+
+void spoil_rows(struct random *random, struct buffers *buffers)
+{
+    spoil_some(random, buffers, true);
+}
+
+void spoil_memory_and_rows(struct random *random, struct buffers *buffers)
+{
+    spoil_some(random, buffers, false);
 }

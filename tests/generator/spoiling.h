@@ -10,4 +10,7 @@ void spoil_length(struct random *random, struct buffer *buffer);
 /* Spoils one or two things of memory, rows and schedule. */
 void spoil_rows(struct random *random, struct buffers *buffers);
 
+/* The same without the schedule. */
+void spoil_memory_and_rows(struct random *random, struct buffers *buffers);
+
 #endif

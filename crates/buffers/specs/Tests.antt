@@ -32,6 +32,10 @@ buffersTested forms types outputs memory input output =
     (andTested (testedOf (inputsOf types input))
     (cond (eqb (length output) (4 * outputs)) Fine (Refused OutputLength 0)))
 
+-- an entry of the map holds the form of a cell
+pub record Holds (of : CellForm) (entry : ℕ) : Type 0 where
+  pub form : formIn entry ≡ formByte of
+
 -- the entries of the map hold the forms of so many cells
 pub record Formed (fs : List CellForm) (entries : List ℕ) (count : ℕ) : Type 0 where
   pub counted : length fs ≡ count

@@ -1,4 +1,5 @@
-// The checks 12 to 16 of an instant's buffers, by the counts and the types of its sheet and the forms of its cells.
+// The checks 12 to 16 of an instant's buffers, by the counts and the types of its sheet and the forms of its cells; and of those of a board, which
+// has up to eight times as many.
 // Rests on `data` for what a word stands for and on `numbers` for words.
 use sheet::Refusal;
 use sheet::data;
@@ -19,9 +20,9 @@ pub enum Tested {
     Fine,
 }
 
-// 12 to 16, of a sheet with `cells` cells, whose entries in the map hold these forms, inputs of these types and `outputs` outputs.
+// 12 to 16, of a sheet or a board with `cells` cells, whose entries in a map hold these forms, inputs of these types and `outputs` outputs.
 pub fn check_buffers(
-    forms: &[u16; 64],
+    forms: &[u16],
     cells: usize,
     types: &[u8],
     outputs: usize,
@@ -29,8 +30,8 @@ pub fn check_buffers(
     input: &[u8],
     output: &[u8],
 ) -> Tested
-    requires { ⌜ cells ≤ 64 ⌝ }
-    requires { ⌜ (length (now types) ≤ 16) × (outputs ≤ 16) ⌝ }
+    requires { ⌜ (cells ≤ 512) × (cells ≤ length (now forms)) ⌝ }
+    requires { ⌜ (length (now types) ≤ 128) × (outputs ≤ 128) ⌝ }
     ensures { λ r. ⌜ ((fs : List CellForm) → Formed fs (now (forms .entry)) cells → r ≡ buffersTested fs
         (map typeOfByte (now (types .entry))) outputs (now (memory .entry)) (now (input .entry)) (now (output .entry))) ⌝ }
 {
@@ -52,8 +53,8 @@ pub fn check_buffers(
 }
 
 // 12 and 13: the memory has 5 bytes for each cell, and each cell is valid.
-fn check_memory(forms: &[u16; 64], cells: usize, memory: &[u8]) -> Tested
-    requires { ⌜ cells ≤ 64 ⌝ }
+fn check_memory(forms: &[u16], cells: usize, memory: &[u8]) -> Tested
+    requires { ⌜ (cells ≤ 512) × (cells ≤ length (now forms)) ⌝ }
     ensures { λ r. ⌜ ((fs : List CellForm) → Formed fs (now (forms .entry)) cells
         → r ≡ testedOf (memoryOf fs (now (memory .entry)))) ⌝ }
 {
@@ -74,8 +75,8 @@ fn check_memory(forms: &[u16; 64], cells: usize, memory: &[u8]) -> Tested
 }
 
 // The lowest cell that is not valid; where all are, their count.
-fn first_invalid(forms: &[u16; 64], cells: usize, memory: &[u8]) -> usize
-    requires { ⌜ (cells ≤ 64) × (length (now memory) ≡ 5 * cells) ⌝ }
+fn first_invalid(forms: &[u16], cells: usize, memory: &[u8]) -> usize
+    requires { ⌜ (cells ≤ 512) × (cells ≤ length (now forms)) × (length (now memory) ≡ 5 * cells) ⌝ }
     ensures { λ r. ⌜ ((fs : List CellForm) → Formed fs (now (forms .entry)) cells
         → r ≡ lowest (invalidAt fs (now (memory .entry))) cells) ⌝ }
 {
@@ -104,7 +105,7 @@ fn valid_cell(form: u8, mark: u8, word: u32) -> bool
 
 // 14 and 15: the input row has 4 bytes for each input, and each holds a value of its type.
 fn check_input(types: &[u8], input: &[u8]) -> Tested
-    requires { ⌜ length (now types) ≤ 16 ⌝ }
+    requires { ⌜ length (now types) ≤ 128 ⌝ }
     ensures { λ r. ⌜ r ≡ testedOf (inputsOf (map typeOfByte (now (types .entry))) (now (input .entry))) ⌝ }
 {
     if input.len() != 4 * types.len() {

@@ -41,6 +41,7 @@ pub enum Refusal {
     ScheduleOrder,
     StaysUnknown,
     NoSchedule,
+    BoardFrame,
 }
 
 // What reading at a place finds: a refusal, or the place past what was read and a number. The number is a count or a byte of

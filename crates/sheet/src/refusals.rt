@@ -30,6 +30,7 @@ pub fn number(why: Refusal) -> u32
         Refusal::ScheduleOrder => 19,
         Refusal::StaysUnknown => 20,
         Refusal::NoSchedule => 21,
+        Refusal::BoardFrame => 22,
     }
 }
 

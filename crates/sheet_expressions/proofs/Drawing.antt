@@ -7,7 +7,7 @@ use mathlib.Core.List.{List, [], _∷_, _++_, append-assoc, append-nil}
 use native.Mathlib.Numerals.{add-one}
 use native.Mathlib.Omega.{arith}
 use lib.ListN.{length, getD, set, take, drop}
-use lib.Seq.{sets-eq, take-at, take-suc, take-all, getD-set-same, getD-set-other}
+use lib.Seq.{sets-eq, length-sets, take-at, take-suc, take-all, getD-set-same, getD-set-other}
 use borrow.Author.Count.{below-more}
 use Rattle.wires.specs.Sets.{member}
 use Rattle.sheet.specs.Data.{plainByte, isKept, wireType}
@@ -124,7 +124,7 @@ module _ {s : List ℕ} {wires at : ℕ} (run : WiresRead s wires at) where
       }
 
   -- all of them
-  pub all-drawn : {w next count : ℕ} {places firsts reads before cells : List ℕ} → wires ≤ 64 → wires ≤ w → 64 ≤ length before
+  pub all-drawn : {w next count : ℕ} {places firsts reads before cells : List ℕ} → wires ≤ 64 → wires ≤ w → length before ≡ 64
       → 64 ≤ length reads → Drawing w next count places firsts reads before cells → Mapped run places firsts reads cells
   all-drawn {w} {next} {count} {before = before} {cells = cells} few over room setRoom d =
       let extent = all-extent (run .inputs) (run .types) s at (run .reads) in
@@ -138,6 +138,7 @@ module _ {s : List ℕ} {wires at : ℕ} (run : WiresRead s wires at) where
       record {
         sites = record { wire = λ v l. d .place v (omega arith); read = λ v l. d .read v (omega arith); room = setRoom };
         cell = rw kept (noted .noted);
+        cellRoom = ap length (noted .placed) ∙ length-sets before 0 (noted .entries) ∙ room;
       }
 
 -- nothing is said of wires that are refused

@@ -120,10 +120,11 @@ pub record Sited {s : List ℕ} {wires at : ℕ} (run : WiresRead s wires at) (p
   pub read : EachHoldsJust reads wires (λ w. wiresRead (expressionAt (run .trees) w))
   pub room : 64 ≤ length reads
 
--- and each cell was noted
+-- and each cell was noted, in a table of 64
 pub record Mapped {s : List ℕ} {wires at : ℕ} (run : WiresRead s wires at) (places firsts reads cells : List ℕ) : Type 0 where
   pub sites : Sited run places firsts reads
   pub cell : Pairwise (CellNoted s) (formsOf (run .trees)) (take (run .count) cells)
+  pub cellRoom : length cells ≡ 64
 
 -- the expressions of wires of these types, as they read from `at` on
 abbrev pub runOf : (inputs types s : List ℕ) (at : ℕ) (trees : List Expression) (n k : ℕ)
@@ -162,4 +163,4 @@ pub record Tables (places firsts reads cells : List ℕ) : Type 0 where
   pub forPlaces : 64 ≤ length places
   pub forFirsts : 64 ≤ length firsts
   pub forReads : 64 ≤ length reads
-  pub forCells : 64 ≤ length cells
+  pub forCells : length cells ≡ 64

@@ -1,22 +1,18 @@
 -- What the bit operations of `Wires` do to the set: shift, or, and, complement, the count of ones, the zeros below the lowest one.
 use Prim.Native.Nat.{ℕ, zero, suc, _+_, _-_, _*_, _/_, _%_, _^_, _≤_, _<_}
 use mathlib.Core.Path.{_≡_, refl, sym, ap, ap₂, _∙_}
-use mathlib.Core.Bool.{Bool, true, false, cond, not, _&&_, _||_, true≢false}
+use mathlib.Core.Bool.{Bool, true, false, cond, not, _&&_, _||_}
 use native.Mathlib.Nat.{mod-lt, mod-eq-of-lt, mod-one, div-one, div-eq-of-lt, div-eq-of-lt-le, mul-mod-left, mul-div-cancel}
-use native.Mathlib.Nat.{pow-suc, zero-lt-suc, lt-of-lt-of-le, one-mul, sub-zero}
+use native.Mathlib.Nat.{pow-suc, zero-lt-suc, one-mul, sub-zero}
 use native.Mathlib.Numerals.{one-add}
 use native.Mathlib.Omega.{arith}
 use lib.Dec.{eqb, ltb, eqb·suc-suc, eqb·zero-suc, eqb·suc-zero, lit<}
 use lib.Bits.{bitOr, bitAnd, or-shr, or-mod, or-lt, and-shr, and-mod, and-mask}
 use lib.Count.{ones, ones-cat, ones-ones, leadingZeros, leading-length, trailingZeros, under, trailing-le}
-use lib.Pow.{pow-pos, pow-mono, pow-lt, shr-shr, mod-pow-add}
+use lib.Pow.{pow-pos, pow-lt, mod-pow-add}
 use borrow.Author.Tests.{eqb-true, eq-eqb, ne-eqb, ltb-true, ltb-false}
-use Rattle.wires.specs.Laws.{none-in}
+use Rattle.wires.specs.Laws.{none-in, half, member-zero, member-suc, halves, same-members, beyond}
 use Rattle.wires.specs.Sets.{member, tally, LowestPresent, EndsAt, TestsWithin}
-
--- one digit further up is one digit of the half
-half : (n k : ℕ) → n / 2 ^ suc k ≡ n / 2 / 2 ^ k
-half n k = rw (← one-add k, ← shr-shr n 1 k)
 
 -- Members of a union, and of the set of one wire.
 
@@ -71,38 +67,7 @@ tally-ones n (suc k) =
 pub count-is : (n : ℕ) → n < 2 ^ 64 → ones n ≡ tally (member n) 64
 count-is n h = sym (tally-ones n 64 ∙ ap ones (mod-eq-of-lt h))
 
--- Digit by digit from the lowest.
-
-member-zero : (n : ℕ) → member n 0 ≡ eqb (n % 2) 1
-unfolding member
-member-zero n = rw div-one
-
-member-suc : (n k : ℕ) → member n (suc k) ≡ member (n / 2) k
-unfolding member
-member-suc n k = rw half
-
-halves : (k n : ℕ) → n < 2 ^ suc k → n / 2 < 2 ^ k
-halves k n h = let l : n < 2 ^ k * 2 = rw pow-suc at h in omega arith
-
 -- A set within another: joined to it, it adds nothing.
-
-digit-same : (p q : ℕ) → p < 2 → q < 2 → eqb p 1 ≡ eqb q 1 → p ≡ q
-digit-same zero zero hp hq e = refl
-digit-same zero (suc zero) hp hq e = absurd (true≢false (sym e))
-digit-same (suc zero) zero hp hq e = absurd (true≢false e)
-digit-same (suc zero) (suc zero) hp hq e = refl
-digit-same zero (suc (suc q)) hp hq e = absurd (omega arith)
-digit-same (suc zero) (suc (suc q)) hp hq e = absurd (omega arith)
-digit-same (suc (suc p)) q hp hq e = absurd (omega arith)
-
--- numbers of k digits with the same members are the same
-same-members : (k n m : ℕ) → n < 2 ^ k → m < 2 ^ k → ((i : ℕ) → member n i ≡ member m i) → n ≡ m
-same-members zero n m hn hm e = omega arith
-same-members (suc k) n m hn hm e =
-    let low = digit-same (n % 2) (m % 2) (omega arith) (omega arith) (sym (member-zero n) ∙ e 0 ∙ member-zero m) in
-    let high = same-members k (n / 2) (m / 2) (halves k n hn) (halves k m hm)
-    (λ i. sym (member-suc n i) ∙ e (suc i) ∙ member-suc m i) in
-    omega arith
 
 or-right : (a b : Bool) → (a ≡ true → b ≡ true) → (a || b) ≡ b
 or-right true b h = sym (h refl)
@@ -125,7 +90,7 @@ digit-and (suc zero) (suc zero) hp hq = refl
 digit-and (suc zero) (suc (suc q)) hp hq = absurd (omega arith)
 digit-and (suc (suc p)) q hp hq = absurd (omega arith)
 
-and-member : (a b k : ℕ) → member (bitAnd a b) k ≡ (member a k && member b k)
+pub and-member : (a b k : ℕ) → member (bitAnd a b) k ≡ (member a k && member b k)
 unfolding member
 and-member a b k =
     ap (λ (x : ℕ). eqb (x % 2) 1) (and-shr a b k) ∙ ap (λ (x : ℕ). eqb x 1) (and-mod (a / 2 ^ k) (b / 2 ^ k) 1)
@@ -147,11 +112,6 @@ not-member (suc j) n zero h l =
     rw (member-zero n, member-zero (2 ^ suc j - 1 - n), turned-digits j n h .0) (digit-not (n % 2) (omega arith))
 not-member (suc j) n (suc k) h l =
     rw (member-suc n k, member-suc (2 ^ suc j - 1 - n) k, turned-digits j n h .1) (not-member j (n / 2) k (halves j n h) (omega arith))
-
--- no digit stands at k or above it
-beyond : (n j k : ℕ) → n < 2 ^ j → j ≤ k → member n k ≡ false
-unfolding member
-beyond n j k h l = rw (div-eq-of-lt (lt-of-lt-of-le h (pow-mono l)))
 
 -- The first n wires: all digits below place n.
 

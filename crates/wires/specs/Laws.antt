@@ -1,11 +1,14 @@
--- Laws of counting and of the lowest number that a set has or misses, for any set: what callers need to know of the definitions.
-use Prim.Native.Nat.{ℕ, zero, suc, _+_, _-_, _^_, _≤_, _<_}
+-- Laws of the digits of a set, of counting and of the lowest number that a set has or misses, for any set: what callers need to know of the
+-- definitions.
+use Prim.Native.Nat.{ℕ, zero, suc, _+_, _-_, _*_, _/_, _%_, _^_, _≤_, _<_}
 use mathlib.Core.Path.{_≡_, refl, sym, ap, _∙_}
 use mathlib.Core.Logic.{_≢_}
 use mathlib.Core.Bool.{Bool, true, false, cond, not, _&&_, _||_, or-false, and-true, and-false, true≢false}
-use native.Mathlib.Nat.{suc-add, zero-add, zero-div, lt-of-not-le}
+use native.Mathlib.Nat.{suc-add, zero-add, zero-div, div-one, div-eq-of-lt, pow-suc, lt-of-not-le, lt-of-lt-of-le}
+use native.Mathlib.Numerals.{one-add}
 use native.Mathlib.Omega.{arith}
 use lib.Dec.{eqb}
+use lib.Pow.{pow-mono, shr-shr}
 use borrow.Author.Count.{below-more}
 use borrow.Author.Tests.{eq-eqb, ne-eqb, eqb-true, eqb-false}
 use Rattle.wires.specs.Sets.{member, tally, LowestPresent, EndsAt}
@@ -14,6 +17,46 @@ use Rattle.wires.specs.Sets.{member, tally, LowestPresent, EndsAt}
 pub none-in : (k : ℕ) → member 0 k ≡ false
 unfolding member
 none-in k = rw (zero-div (2 ^ k))
+
+-- one digit further up is one digit of the half
+pub half : (n k : ℕ) → n / 2 ^ suc k ≡ n / 2 / 2 ^ k
+half n k = rw (← one-add k, ← shr-shr n 1 k)
+
+-- Digit by digit from the lowest.
+
+pub member-zero : (n : ℕ) → member n 0 ≡ eqb (n % 2) 1
+unfolding member
+member-zero n = rw div-one
+
+pub member-suc : (n k : ℕ) → member n (suc k) ≡ member (n / 2) k
+unfolding member
+member-suc n k = rw half
+
+pub halves : (k n : ℕ) → n < 2 ^ suc k → n / 2 < 2 ^ k
+halves k n h = let l : n < 2 ^ k * 2 = rw pow-suc at h in omega arith
+
+digit-same : (p q : ℕ) → p < 2 → q < 2 → eqb p 1 ≡ eqb q 1 → p ≡ q
+digit-same zero zero hp hq e = refl
+digit-same zero (suc zero) hp hq e = absurd (true≢false (sym e))
+digit-same (suc zero) zero hp hq e = absurd (true≢false e)
+digit-same (suc zero) (suc zero) hp hq e = refl
+digit-same zero (suc (suc q)) hp hq e = absurd (omega arith)
+digit-same (suc zero) (suc (suc q)) hp hq e = absurd (omega arith)
+digit-same (suc (suc p)) q hp hq e = absurd (omega arith)
+
+-- numbers of k digits with the same members are the same
+pub same-members : (k n m : ℕ) → n < 2 ^ k → m < 2 ^ k → ((i : ℕ) → member n i ≡ member m i) → n ≡ m
+same-members zero n m hn hm e = omega arith
+same-members (suc k) n m hn hm e =
+    let low = digit-same (n % 2) (m % 2) (omega arith) (omega arith) (sym (member-zero n) ∙ e 0 ∙ member-zero m) in
+    let high = same-members k (n / 2) (m / 2) (halves k n hn) (halves k m hm)
+    (λ i. sym (member-suc n i) ∙ e (suc i) ∙ member-suc m i) in
+    omega arith
+
+-- no digit stands at k or above it
+pub beyond : (n j k : ℕ) → n < 2 ^ j → j ≤ k → member n k ≡ false
+unfolding member
+beyond n j k h l = rw (div-eq-of-lt (lt-of-lt-of-le h (pow-mono l)))
 
 -- the count below n depends only on the members below n
 pub tally-same : (f g : ℕ → Bool) (n : ℕ) → ((k : ℕ) → k < n → f k ≡ g k) → tally f n ≡ tally g n

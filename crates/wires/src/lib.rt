@@ -1,4 +1,5 @@
-// A set of wires, such as the known ones, held as 64 bits by value: wire k is in the set where bit k is 1.
+// A set of wires, such as the known ones, held as 64 bits by value: wire k is in the set where bit k is 1. The marks of a board's sheets are
+// such a set too, of sheets instead of wires.
 ghost use mathlib.Core.Path.{_≡_};
 ghost use Prim.Native.Nat.{ℕ, _≤_, _<_};
 ghost use mathlib.Core.Bool.{_&&_, _||_, not, false};
@@ -55,6 +56,15 @@ impl Wires {
     {
         Wires {
             bits: self.bits | other.bits,
+        }
+    }
+
+    // The wires that are in both sets.
+    pub fn common(self, other: Wires) -> Wires
+        ensures { λ r. ⌜ ((k : ℕ) → member (r .bits) k ≡ (member (self .bits) k && member (other .bits) k)) ⌝ }
+    {
+        Wires {
+            bits: self.bits & other.bits,
         }
     }
 

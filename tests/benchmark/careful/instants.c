@@ -1,37 +1,10 @@
-/* The calls of careful C but the maker: the checks of memory, rows and schedule, and the instants. Rests on reading.c, values.c,
- * rounds.c, waiting.c and storing.c.
+/* The calls of careful C but the maker and the tick: the check of a schedule, and the instants. Rests on reading.c, values.c, rounds.c,
+ * waiting.c and storing.c.
  */
 #include "benchmark/careful/careful.h"
 #include "benchmark/careful/internal.h"
 
-/* ---- Memory, rows and schedule ---- */
-
-static uint32_t check_memory(const struct program *program, const uint8_t *memory, size_t memory_length)
-{
-    if (memory_length != (size_t)bytes_of_cell * program->cells)
-        return refusal(12, 0);
-    for (unsigned cell = 0; cell < program->cells; cell++) {
-        const uint8_t *const bytes = memory + bytes_of_cell * cell;
-        const bool is_fby = program->cell_node[cell]->kind == kind_fby;
-        const uint32_t greatest = bytes[0] == 0 ? 0 : program->cell_type[cell] == 0 ? 1 : UINT32_MAX;
-        if (bytes[0] > 1 || (bytes[0] == 0 && !is_fby) || read_number(bytes + 1) > greatest)
-            return refusal(13, cell);
-    }
-    return 0;
-}
-
-/* Takes the numbers out of the row on the way. */
-static uint32_t check_input(const struct program *program, const uint8_t *input, size_t input_length, uint32_t *numbers)
-{
-    if (input_length != (size_t)bytes_of_number * program->inputs)
-        return refusal(14, 0);
-    for (unsigned index = 0; index < program->inputs; index++) {
-        numbers[index] = read_number(input + bytes_of_number * index);
-        if (numbers[index] > 1 && program->types[type_input + index] == 1)
-            return refusal(15, index);
-    }
-    return 0;
-}
+/* ---- The schedule ---- */
 
 static uint32_t check_schedule(const struct program *program, const uint8_t *schedule, size_t schedule_length)
 {
@@ -52,21 +25,28 @@ static uint32_t check_schedule(const struct program *program, const uint8_t *sch
 
 /* ---- The instants ---- */
 
+void begin_instant(struct instant *instant, struct program *program, const uint8_t *memory)
+{
+    link_nodes(program);
+    instant->program = program;
+    instant->memory = memory;
+    instant->known = 0;
+}
+
 uint32_t prepare(struct program *program, struct instant *instant, const uint8_t *sheet, size_t sheet_length, const uint8_t *memory,
                  size_t memory_length, const uint8_t *input, size_t input_length, size_t output_length)
 {
     uint32_t refused = read_program(program, sheet, sheet_length);
     if (refused == 0)
-        refused = check_memory(program, memory, memory_length);
+        refused = memory_length == (size_t)bytes_of_cell * program->cells ? check_cells(program, memory) : refusal(12, 0);
+    if (refused == 0 && input_length != (size_t)bytes_of_number * program->inputs)
+        refused = refusal(14, 0);
     if (refused == 0)
-        refused = check_input(program, input, input_length, instant->inputs);
+        refused = take_inputs(program, input, instant->inputs);
     if (refused == 0 && output_length != (size_t)bytes_of_number * program->outputs)
         refused = refusal(16, 0);
     if (refused == 0)
-        link_nodes(program);
-    instant->program = program;
-    instant->memory = memory;
-    instant->known = 0;
+        begin_instant(instant, program, memory);
     return refused;
 }
 
@@ -81,7 +61,19 @@ static void finish(struct instant *instant, uint8_t *next_memory, uint8_t *outpu
         write_number(output + bytes_of_number * index, instant->wires[program->output_wires[index]]);
 }
 
-/* The instant in rounds: until one changes nothing. Where there is no next memory, nothing is stored. */
+uint32_t make_rounds(struct instant *instant, uint8_t *next_memory, uint8_t *output)
+{
+    struct rounds rounds;
+    begin_rounds(instant, &rounds);
+    while (make_round(instant, &rounds))
+        continue;
+    if (rounds.unknown != 0)
+        return refusal(20, lowest_waiting(instant, rounds.unknown));
+    finish(instant, next_memory, output);
+    return rounds.made;
+}
+
+/* The instant in rounds. Where there is no next memory, nothing is stored. */
 static uint32_t in_rounds(const uint8_t *sheet, size_t sheet_length, const uint8_t *memory, size_t memory_length, const uint8_t *input,
                           size_t input_length, uint8_t *output, size_t output_length, uint8_t *next_memory)
 {
@@ -89,16 +81,7 @@ static uint32_t in_rounds(const uint8_t *sheet, size_t sheet_length, const uint8
     struct instant instant;
     const uint32_t refused =
         prepare(&program, &instant, sheet, sheet_length, memory, memory_length, input, input_length, output_length);
-    if (refused != 0)
-        return refused;
-    struct rounds rounds;
-    begin_rounds(&instant, &rounds);
-    while (make_round(&instant, &rounds))
-        continue;
-    if (rounds.unknown != 0)
-        return refusal(20, lowest_waiting(&instant, rounds.unknown));
-    finish(&instant, next_memory, output);
-    return rounds.made;
+    return refused != 0 ? refused : make_rounds(&instant, next_memory, output);
 }
 
 uint32_t careful_check(const uint8_t *sheet, size_t sheet_length)

@@ -177,9 +177,42 @@ static inline const struct node *body_of(const struct program *program, const st
     return second ? fourth_of(program, node) : third_of(node);
 }
 
+/* ---- Memory and rows ---- */
+
+/* Refusal 13 of a memory that has the cells of the program, or 0. */
+static inline uint32_t check_cells(const struct program *program, const uint8_t *memory)
+{
+    for (unsigned cell = 0; cell < program->cells; cell++) {
+        const uint8_t *const bytes = memory + bytes_of_cell * cell;
+        const bool is_fby = program->cell_node[cell]->kind == kind_fby;
+        const uint32_t greatest = bytes[0] == 0 ? 0 : program->cell_type[cell] == 0 ? 1 : UINT32_MAX;
+        if (bytes[0] > 1 || (bytes[0] == 0 && !is_fby) || read_number(bytes + 1) > greatest)
+            return refusal(13, cell);
+    }
+    return 0;
+}
+
+/* Refusal 15 of a row that has the inputs of the program, or 0. Takes the numbers out of the row on the way. */
+static inline uint32_t take_inputs(const struct program *program, const uint8_t *input, uint32_t *numbers)
+{
+    for (unsigned index = 0; index < program->inputs; index++) {
+        numbers[index] = read_number(input + bytes_of_number * index);
+        if (numbers[index] > 1 && program->types[type_input + index] == 1)
+            return refusal(15, index);
+    }
+    return 0;
+}
+
 /* ---- instants.c ---- */
 
-/* Checks 1 to 16, and what the instant has at hand. */
+/* Links the program, and gives the instant what it has at hand but the inputs, which it has already. */
+void begin_instant(struct instant *instant, struct program *program, const uint8_t *memory);
+
+/* Rounds until one changes nothing, then the output row and, where there is one, the next memory, which is the instant's own; refused 20,
+ * nothing is written. */
+uint32_t make_rounds(struct instant *instant, uint8_t *next_memory, uint8_t *output);
+
+/* Checks 1 to 16, and begins the instant. */
 uint32_t prepare(struct program *program, struct instant *instant, const uint8_t *sheet, size_t sheet_length, const uint8_t *memory,
                  size_t memory_length, const uint8_t *input, size_t input_length, size_t output_length);
 

@@ -38,7 +38,7 @@ returns-2 c fs e =
     )
 
 mul-if1 : tie.Need-mul-if1
-mul-if1 c = omega (arith, c .before .before .before .before .before .before .before .before .before .before .pre .1 .1)
+mul-if1 c = omega (arith, c .before .before .before .before .before .before .before .before .before .before .before .pre .1 .1)
 
 returns-3 : tie.Need-returns-3
 returns-3 c fs e =

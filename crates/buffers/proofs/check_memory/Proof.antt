@@ -14,7 +14,7 @@ use Rattle.buffers.proofs.check_memory.Statement.{statement}
 use Rattle.buffers.proofs.check_memory.Tie as tie
 
 mul-if1 : tie.Need-mul-if1
-mul-if1 c = omega (arith, c .before .pre)
+mul-if1 c = omega (arith, c .before .before .pre)
 
 returns : tie.Need-returns
 unfolding memoryOf
@@ -26,9 +26,9 @@ first-invalid-requires c κs = search needs
 
 -- the memory has its length, and the search went over all cells
 module _ (c : tie.After-first-invalid) (fs : List CellForm)
-    (e : let a = c .before .before .before .args in Formed fs (a .forms .now) (a .cells)) where
+    (e : let a = c .before .before .before .before .args in Formed fs (a .forms .now) (a .cells)) where
   abbrev start : tie.Start
-  start = c .before .before .before
+  start = c .before .before .before .before
 
   fits : length (start .args .memory .now) ≡ 5 * length fs
   fits = c .before .if1 .left ∙ ap (λ n. 5 * n) (sym (e .counted))

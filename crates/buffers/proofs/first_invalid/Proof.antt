@@ -25,25 +25,25 @@ loop-holds : tie.Need-loop-holds Inv-loop μ-loop
 loop-holds c = (omega arith, λ fs e j l. absurd (omega arith))
 
 mul-at : tie.Need-mul-at Inv-loop μ-loop
-mul-at c = omega (arith, c .before .before .before .pre)
+mul-at c = omega (arith, c .before .before .before .before .pre)
 
 mul-form : tie.Need-mul-form Inv-loop μ-loop
 mul-form c = search needs
 
-element-copy-out-form : tie.Need-element-copy-out-form Inv-loop μ-loop
-element-copy-out-form c = omega (arith, c .before .before .before .pre)
+shared-slice-read-form : tie.Need-shared-slice-read-form Inv-loop μ-loop
+shared-slice-read-form c = omega (arith, c .before .before .before .before .before .pre)
 
 cast-form : tie.Need-cast-form Inv-loop μ-loop
 cast-form c = search needs
 
 shared-slice-read-valid-cell : tie.Need-shared-slice-read-valid-cell Inv-loop μ-loop
-shared-slice-read-valid-cell c = omega (arith, c .before .before .before .before .before .pre)
+shared-slice-read-valid-cell c = omega (arith, c .before .before .before .before .before .before .pre)
 
 add-word-at : tie.Need-add-word-at Inv-loop μ-loop
-add-word-at c = omega (arith, c .before .before .before .before .before .pre)
+add-word-at c = omega (arith, c .before .before .before .before .before .before .pre)
 
 word-at-requires : tie.Need-word-at-requires Inv-loop μ-loop
-word-at-requires c κs = omega (arith, c .before .before .before .before .before .pre)
+word-at-requires c κs = omega (arith, c .before .before .before .before .before .before .pre)
 
 valid-cell-requires : tie.Need-valid-cell-requires Inv-loop μ-loop
 valid-cell-requires c κs = search needs
@@ -51,7 +51,7 @@ valid-cell-requires c κs = search needs
 returns : tie.Need-returns Inv-loop μ-loop
 returns c fs e =
     let turn = c .before .before .before .before .before in
-    let a = turn .before .before .before .args in
+    let a = turn .before .before .before .before .args in
     let l = turn .before .loop in
     lowest-is (invalidAt fs (a .memory .now)) (a .cells) (l .k) (l .inv .0) (λ h. cell-test fs (a .forms .now) (a .memory .now) (a .cells) (l .k) (turn .loop-test .taken) e refl (c .before .before .word-at .ensures)
     (c .before .valid-cell .ensures) ∙ c .if1 .taken) (l .inv .1 fs e)
@@ -65,7 +65,7 @@ loop-less c = omega arith
 loop-again : tie.Need-loop-again Inv-loop μ-loop
 loop-again c =
     let turn = c .before .before .before .before .before in
-    let a = turn .before .before .before .args in
+    let a = turn .before .before .before .before .args in
     let l = turn .before .loop in (
       omega arith,
       λ fs e. below-more _ _ (l .inv .1 fs e) (cell-test fs (a .forms .now) (a .memory .now) (a .cells) (l .k) (turn .loop-test .taken) e refl (c .before .before .word-at .ensures)
@@ -74,7 +74,7 @@ loop-again c =
 
 returns-2 : tie.Need-returns-2 Inv-loop μ-loop
 returns-2 c fs e =
-    let a = c .before .before .before .args in
+    let a = c .before .before .before .before .args in
     let l = c .before .loop in
     lowest-is (invalidAt fs (a .memory .now)) (a .cells) (l .k) (l .inv .0)
     (λ h. absurd (omega (arith, c .loop-test .left))) (l .inv .1 fs e)
@@ -88,7 +88,7 @@ first-invalid-spec =
     loop-holds
     mul-at
     mul-form
-    element-copy-out-form
+    shared-slice-read-form
     cast-form
     shared-slice-read-valid-cell
     add-word-at

@@ -9,7 +9,9 @@ use Rattle.sheet.specs.Sheets.{sheetForms}
 use Rattle.kernel.specs.Calls.{Given, givenOf}
 use Rattle.given.specs.Grants.{partsOf}
 use Rattle.buffers.specs.Tests.{buffersTested}
-use Rattle.given.proofs.Passing.{noted-forms, Passes, own-tests, passes, sheet-refused, buffers-refused, buffers-passed}
+use Rattle.sheet.specs.Laws.Checked.{CheckPassed, check-passed}
+use Rattle.buffers.specs.Laws.{noted-hold, held-forms}
+use Rattle.given.proofs.Passing.{own-tests, sheet-refused, buffers-refused, buffers-passed}
 use Rattle.given.proofs.Standing.{input-length}
 use Rattle.given.proofs.Granting.{grants-refusal, grants-kept, grants-parts}
 use Rattle.given.proofs.given_of.Statement.{statement}
@@ -31,11 +33,11 @@ start c = c .before .before .before .before .before .before .before .before .bef
 -- the check passed the sheet
 found : (c : tie.After-known-told2)
     → let n = c .before .inputs .given .0 in
-    Passes (start c .args .sheet .now) (n .0) (n .1 .0) (n .1 .1 .0) (n .1 .1 .1 .0)
-found c = passes (start c .args .sheet .now) _ _ _ _ (sym (c .before .before .before .check-map .ensures .0) ∙ c .before .inputs .given .1)
+    CheckPassed (start c .args .sheet .now) (n .0) (n .1 .0) (n .1 .1 .0) (n .1 .1 .1 .0)
+found c = check-passed (start c .args .sheet .now) _ _ _ _ (sym (c .before .before .before .check-map .ensures .0) ∙ c .before .inputs .given .1)
 
 add-types : tie.Need-add-types
-add-types c = omega (arith, found c .checked .few-inputs)
+add-types c = omega (arith, found c .few-inputs)
 
 sub-types : tie.Need-sub-types
 sub-types c = search needs
@@ -46,9 +48,19 @@ part-types-start c = search needs
 part-types-end : tie.Need-part-types-end
 part-types-end c = found c .within
 
+-- the map has the forms of the cells in a table of 64
+table-of : (c : tie.After-known-told2) → length (c .before .before .before .check-map .last .1 .1 .1 .1 .0) ≡ 64
+table-of c =
+    let p = found c in
+    c .before .before .before .check-map .ensures .1 (p .sheet) (p .end) _ (p .view) .cellRoom
+
+slice-aggregate-check-buffers : tie.Need-slice-aggregate-check-buffers
+slice-aggregate-check-buffers c = sym (table-of (c .before .before))
+
 check-buffers-requires : tie.Need-check-buffers-requires
 check-buffers-requires c κs =
-    let p = found (c .before .before) .checked in (p .few-cells, (simp length-take (omega (arith, p .few-inputs)), p .few-outputs))
+    let p = found (c .before .before) in
+    ((omega (arith, p .few-cells), omega (arith, p .few-cells, table-of (c .before .before))), (simp length-take (omega (arith, p .few-inputs)), omega (arith, p .few-outputs)))
 
 -- the check of the sheet, from the tests of the buffers
 abbrev before-tests : tie.After-check-buffers → tie.After-known-told2
@@ -57,16 +69,16 @@ before-tests c = c .before .before .before
 -- the tests were of the sheet's own forms, types and outputs
 tested : (c : tie.After-check-buffers)
     → let a = start (before-tests c) .args in
-    let sheet = found (before-tests c) .checked .sheet in
+    let sheet = found (before-tests c) .sheet in
     c .check-buffers .result
     ≡ buffersTested (sheetForms sheet) (sheet .inputTypes) (length (sheet .outputs)) (a .memory .now) (a .input .now) (a .output .now)
 tested c =
     let a = start (before-tests c) .args in
     let passed = found (before-tests c) in
-    let p = passed .checked in
+    let p = passed in
     let mapped = c .before .before .before .before .before .before .check-map .ensures .1 (p .sheet) (p .end) _ (p .view) in
     let noted = rw (← (ap sheetForms (p .view .is))) at (mapped .cell) in
-    c .check-buffers .ensures (sheetForms (p .sheet)) (noted-forms (p .cells-are) noted)
+    c .check-buffers .ensures (sheetForms (p .sheet)) (held-forms (p .cells-are) (noted-hold noted))
     ∙ own-tests passed (a .memory .now) (a .input .now) (a .output .now)
 
 enum-known-why-2 : tie.Need-enum-known-why-2
@@ -80,14 +92,14 @@ passed : (c : tie.After-enum-told)
     → let at = before-tests (c .before .before) in
     let a = start at .args in
     (given : Given) × (givenOf (a .sheet .now) (a .memory .now) (a .input .now) (a .output .now) ≡ result given)
-    × (given .sheet ≡ found at .checked .sheet)
+    × (given .sheet ≡ found at .sheet)
 passed c =
     let at = c .before .before in
-    buffers-passed _ _ _ _ (found (before-tests at) .checked .outcome) (sym (c .enum-told .given .1) ∙ tested at)
+    buffers-passed _ _ _ _ (found (before-tests at) .outcome) (sym (c .enum-told .given .1) ∙ tested at)
 
 -- the wires that were counted are few
 few : (c : tie.After-enum-told) → let n = before-tests (c .before .before) .before .inputs .given .0 in (n .0 ≤ 16) × (n .1 .0 ≤ 64)
-few c = let p = found (before-tests (c .before .before)) .checked in (p .few-inputs, p .few-wires)
+few c = let p = found (before-tests (c .before .before)) in (p .few-inputs, p .few-wires)
 
 add-wire-types : tie.Need-add-wire-types
 add-wire-types c = omega (arith, few c)
@@ -108,7 +120,7 @@ part-wire-types-start c = omega arith
 part-wire-types-end : tie.Need-part-wire-types-end
 part-wire-types-end c =
     let at = before-tests (c .before .before) in
-    let p = found at .checked in
+    let p = found at in
     let (given, passes, is) = passed c in
     let memory = at .before .before .before .before .before .before .before .before .before .before in
     rw (is, p .inputs-are, p .wires-are)
@@ -119,7 +131,7 @@ put-fixed-requires : tie.Need-put-fixed-requires
 put-fixed-requires c κs =
     let told = c .before .before .before in
     let at = before-tests (told .before .before) in
-    let p = found at .checked in
+    let p = found at in
     let (given, passes, is) = passed told in
     let memory = at .before .before .before .before .before .before .before .before .before .before in
     let (within, kept, count) = rw (is, p .inputs-are, p .wires-are)
@@ -129,7 +141,7 @@ put-fixed-requires c κs =
 
 parts-requires : tie.Need-parts-requires
 parts-requires c κs =
-    let p = found (before-tests (c .before .before .before .before .before .before)) .checked in (p .few-inputs, p .few-wires, p .few-outputs)
+    let p = found (before-tests (c .before .before .before .before .before .before)) in (p .few-inputs, p .few-wires, p .few-outputs)
 
 returns : tie.Need-returns
 returns c =
@@ -139,12 +151,12 @@ returns-2 : tie.Need-returns-2
 returns-2 c =
     let at = c .before .before .before in
     grants-refusal _ _ _ _ _ _ _ _
-    (buffers-refused _ _ _ _ (found (before-tests at) .checked .outcome) (sym (c .before .why2 .given .1) ∙ tested at))
+    (buffers-refused _ _ _ _ (found (before-tests at) .outcome) (sym (c .before .why2 .given .1) ∙ tested at))
 
 returns-3 : tie.Need-returns-3
 returns-3 c =
     let at = before-tests (c .before .before .before .before .before .before .before) in
-    let p = found at .checked in
+    let p = found at in
     let (given, passes, is) = passed (c .before .before .before .before .before) in
     let drawn = at .before .before .before .check-map .ensures .1 in
     let memory = at .before .before .before .before .before .before .before .before .before .before in
@@ -166,6 +178,7 @@ given-of-spec =
     sub-types
     part-types-start
     part-types-end
+    slice-aggregate-check-buffers
     check-buffers-requires
     enum-known-why-2
     enum-told

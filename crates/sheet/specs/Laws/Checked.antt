@@ -2,11 +2,11 @@
 use Prim.Native.Nat.{ℕ, _+_, _-_, _≤_, _<_}
 use mathlib.Core.Path.{_≡_, refl, sym, ap, _∙_}
 use mathlib.Core.Bool.{false}
-use mathlib.Core.List.{List}
+use mathlib.Core.List.{List, map}
 use native.Mathlib.Omega.{arith}
-use lib.ListN.{length, getD}
+use lib.ListN.{length, getD, take, drop, length-map}
 use lib.Seq.{getD-take, getD-drop}
-use Rattle.sheet.specs.Data.{isKept}
+use Rattle.sheet.specs.Data.{typeOfByte, isKept}
 use Rattle.sheet.specs.Expressions.{isKeptWire}
 use Rattle.sheet.specs.Outcomes.{refusal, result}
 use Rattle.sheet.specs.Readings.{Reading, refused, got}
@@ -48,7 +48,7 @@ kept-by-byte s {sheet} e w l =
     ∙ (wires-kept (before s (v .inputsEnd) (v .inputCount)) wires s wires (v .outputsEnd) (keptCount wires) (v .each) w inside
     ∙ ap isKept byte)
 
--- a sheet that passes the check with these counts
+-- a sheet that passes the check with these counts; the types of its inputs stand behind its first byte
 pub record CheckPassed (s : List ℕ) (inputs wires outputs cells : ℕ) : Type 0 where
   pub sheet : Sheet
   pub outcome : sheetOf s ≡ result sheet
@@ -62,6 +62,8 @@ pub record CheckPassed (s : List ℕ) (inputs wires outputs cells : ℕ) : Type 
   pub few-cells : cells ≤ 64
   pub end : ℕ
   pub view : SheetRead s sheet end cells
+  pub within : 1 + inputs ≤ length s
+  pub types : map typeOfByte (take (1 + inputs - 1) (drop 1 s)) ≡ sheet .inputTypes
 
 pub check-passed : (s : List ℕ) (i w o k : ℕ) → checkOf s ≡ Passed i w o k → CheckPassed s i w o k
 unfolding sheetOf
@@ -76,6 +78,14 @@ check-passed s i w o k = go (readSheet s) refl
         let outputs : length (sheet .outputs) ≡ o = cc in
         let same : count ≡ k = cc in
         let cells : length (sheetForms sheet) ≡ k = sym (read-counted s q) ∙ same in
+        let view = rw same at (sheet-view s q) in
+        let section = section-good s 0 0 17 2 false TypeByte (view .inputs) in
+        let counted : view .inputCount ≡ i =
+        sym (section-length section) ∙ sym (length-map (before s (view .inputsEnd) (view .inputCount)) typeOfByte)
+        ∙ sym (ap (λ (x : Sheet). length (x .inputTypes)) (view .is)) ∙ inputs in
+        let start : view .inputsEnd - view .inputCount ≡ 1 = omega (arith, section .bytes .next) in
+        let long : 1 + i - 1 ≡ i = omega arith in
+        let bytes : before s (view .inputsEnd) (view .inputCount) ≡ take (1 + i - 1) (drop 1 s) = rw (start, counted, long) in
         record {
           sheet = sheet;
           outcome = rw q;
@@ -88,5 +98,7 @@ check-passed s i w o k = go (readSheet s) refl
           few-outputs = omega (arith, passed .few-outputs);
           few-cells = omega (arith, passed .counted, passed .few-cells);
           end = next;
-          view = rw same at (sheet-view s q);
+          view = view;
+          within = omega (arith, section .bytes .next, section .bytes .within, counted);
+          types = sym (ap (λ (x : Sheet). x .inputTypes) (view .is) ∙ ap (map typeOfByte) bytes);
         }

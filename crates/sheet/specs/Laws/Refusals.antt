@@ -24,7 +24,7 @@ use Rattle.sheet.specs.declared.Refusal.{Refusal}
 use Rattle.sheet.specs.declared.Refusal.the-variants.{SheetLength, Cut, CountRange, TypeByte, OutputWire}
 use Rattle.sheet.specs.declared.Refusal.the-variants.{Kind, Body, Level, TypeAsked, CellLimit, LeftOver}
 use Rattle.sheet.specs.declared.Refusal.the-variants.{MemoryLength, CellContent, InputLength, InputContent, OutputLength}
-use Rattle.sheet.specs.declared.Refusal.the-variants.{ScheduleLength, ScheduleEntry, ScheduleOrder, StaysUnknown, NoSchedule}
+use Rattle.sheet.specs.declared.Refusal.the-variants.{ScheduleLength, ScheduleEntry, ScheduleOrder, StaysUnknown, NoSchedule, BoardFrame}
 use Rattle.sheet.specs.declared.Read.{Read}
 use Rattle.sheet.specs.declared.Read.the-variants.{Refused, Got}
 use Rattle.sheet.specs.declared.Checked.the-variants.{Refused as RefusedSheet}
@@ -139,30 +139,42 @@ module _ (inputs wires s : List ℕ) where
       and-then-within (length s) (readExpression inputs wires s 16 (plainByte b) a c) _ (expression-within 16 (plainByte b) a c) (λ e n k. got-within))
       wires at (keptCount wires)
 
--- The sheet.
-pub sheet-within : (s : List ℕ) → ReadingWithin 4096 (readSheet s)
-unfolding readSheet wiresFrom outputsFrom
-sheet-within s =
-    by-test (ReadingWithin 4096) (eqb (length s) 0) (λ e. first) (λ e.
-    by-test (ReadingWithin 4096) (ltb 4096 (length s)) (λ f. first) (λ f.
-    lift (ltb-false 4096 (length s) f)
-    (on-read-within (length s) (sectionOf s 0 0 17 2 false TypeByte) _ (section-within s 0 0 17 2 false TypeByte (omega arith)) (λ m j g.
-    on-read-within (length s) (sectionOf s m 1 65 4 false TypeByte) _ (section-within s m 1 65 4 false TypeByte (omega arith)) (λ n k h.
-    on-read-within (length s) (sectionOf s n 1 17 (length (before s n k)) true OutputWire) _
-    (section-within s n 1 17 (length (before s n k)) true OutputWire (omega arith)) (λ o l i.
-    and-then-within (length s) (readWires (before s m j) (before s n k) s o) _
-    (wires-within (before s m j) (before s n k) s o) (λ es end count.
-    by-test (ReadingWithin (length s)) (ltb end (length s))
-    (λ q. refused-within {why = LeftOver} (record { number = omega arith; bounded = omega (arith, ltb-true end (length s) q) }))
-    (λ q. got-within))))))))
-  where
-    first : ReadingWithin {A = Sheet} 4096 (refused SheetLength 0)
-    first = refused-within {why = SheetLength} (record { number = omega arith; bounded = zero-le })
+-- The sheet: the place of a refusal is in it or at its end.
+module _ (s : List ℕ) where
+  from-inputs-inside : ReadingWithin (length s) (onRead (sectionOf s 0 0 17 2 false TypeByte) refused (λ n k. wiresFrom s (before s n k) n))
+  unfolding wiresFrom outputsFrom
+  from-inputs-inside =
+      on-read-within (length s) (sectionOf s 0 0 17 2 false TypeByte) _ (section-within s 0 0 17 2 false TypeByte (omega arith)) (λ m j g.
+      on-read-within (length s) (sectionOf s m 1 65 4 false TypeByte) _ (section-within s m 1 65 4 false TypeByte (omega arith)) (λ n k h.
+      on-read-within (length s) (sectionOf s n 1 17 (length (before s n k)) true OutputWire) _
+      (section-within s n 1 17 (length (before s n k)) true OutputWire (omega arith)) (λ o l i.
+      and-then-within (length s) (readWires (before s m j) (before s n k) s o) _
+      (wires-within (before s m j) (before s n k) s o) (λ es end count.
+      by-test (ReadingWithin (length s)) (ltb end (length s))
+      (λ q. refused-within {why = LeftOver} (record { number = omega arith; bounded = omega (arith, ltb-true end (length s) q) }))
+      (λ q. got-within)))))
 
-    lift : {x : Reading Sheet} → length s ≤ 4096 → ReadingWithin (length s) x → ReadingWithin 4096 x
-    lift l (refused-within {place = place} w) =
-        let k : place ≤ 4096 = omega (arith, w .bounded) in refused-within (record { number = w .number; bounded = k })
-    lift l got-within = got-within
+  -- the wrong length is refused at 0
+  length-refused : (n : ℕ) → ReadingWithin {A = Sheet} n (refused SheetLength 0)
+  length-refused n = refused-within {why = SheetLength} (record { number = omega arith; bounded = zero-le })
+
+  pub sheet-inside : ReadingWithin (length s) (readSheet s)
+  unfolding readSheet
+  sheet-inside =
+      by-test (ReadingWithin (length s)) (eqb (length s) 0) (λ e. length-refused (length s)) (λ e.
+      by-test (ReadingWithin (length s)) (ltb 4096 (length s)) (λ f. length-refused (length s)) (λ f. from-inputs-inside))
+
+  pub sheet-within : ReadingWithin 4096 (readSheet s)
+  unfolding readSheet
+  sheet-within =
+      by-test (ReadingWithin 4096) (eqb (length s) 0) (λ e. length-refused 4096) (λ e.
+      by-test (ReadingWithin 4096) (ltb 4096 (length s)) (λ f. length-refused 4096) (λ f.
+      lift (ltb-false 4096 (length s) f) from-inputs-inside))
+    where
+      lift : {x : Reading Sheet} → length s ≤ 4096 → ReadingWithin (length s) x → ReadingWithin 4096 x
+      lift l (refused-within {place = place} w) =
+          let k : place ≤ 4096 = omega (arith, w .bounded) in refused-within (record { number = w .number; bounded = k })
+      lift l got-within = got-within
 
 -- The checks behind it.
 module _ {A : Type 0} (most : ℕ) where
@@ -187,6 +199,16 @@ module _ {A : Type 0} (most : ℕ) where
   wider least l (refusal why place) (refusal-within w) =
       let few : numberOf why ≤ most = omega (arith, w .number) in refusal-within (record { number = few; bounded = w .bounded })
   wider least l (result a) result-within = result-within
+
+-- a sheet that is refused is refused with 1 to 11, at a place in it or at its end
+pub sheet-refused-inside : (s : List ℕ) {why : Refusal} {place : ℕ} → sheetOf s ≡ refusal why place → Within 11 (length s) why place
+unfolding sheetOf
+sheet-refused-inside s {why} {place} = go (readSheet s) (sheet-inside s)
+  where
+    go : (x : Reading Sheet) → ReadingWithin (length s) x → outcomeOf x ≡ refusal why place → Within 11 (length s) why place
+    go (refused found at) (refused-within w) e =
+        let why-is : found ≡ why = cc in let place-is : at ≡ place = cc in rw (why-is, place-is) at w
+    go (got sheet next count) got-within e = absurd (let z : _≡_ {A = ℕ} 0 1 = cc in omega arith)
 
 pub sheet-of-within : (s : List ℕ) → OutcomeWithin 11 (sheetOf s)
 unfolding sheetOf
@@ -235,7 +257,7 @@ start-refusals s memory {why} {place} = go (startOutcome s memory) (start-within
     go (result bytes) result-within e = absurd (let z : _≡_ {A = ℕ} 0 1 = cc in omega arith)
 
 -- a number that is packed keeps number and place apart
-pub numbers-few : (why : Refusal) → numberOf why ≤ 21
+pub numbers-few : (why : Refusal) → numberOf why ≤ 22
 numbers-few SheetLength = omega arith
 numbers-few Cut = omega arith
 numbers-few CountRange = omega arith
@@ -257,3 +279,4 @@ numbers-few ScheduleEntry = omega arith
 numbers-few ScheduleOrder = omega arith
 numbers-few StaysUnknown = omega arith
 numbers-few NoSchedule = omega arith
+numbers-few BoardFrame = omega arith

@@ -1,5 +1,5 @@
 /* The library and the yardsticks side by side, before anything is timed: the same answers and the same buffers. Rests on the sheets, the
- * boards and the yardsticks of the times.
+ * boards, the pairs and the yardsticks of the times.
  */
 #include "benchmark/agreement.h"
 
@@ -100,5 +100,30 @@ bool ticks_agree(const struct board *board)
             same = is_same(board->name, call_tick, index, other == answer && same_buffers_of_board(&of_yardstick[index], &of_library));
         }
     }
+    return same;
+}
+
+/* ---- Pairs ---- */
+
+static bool join_agrees(const struct pair *pair, const char *name)
+{
+    static struct pair of_library, of_yardstick;
+    of_library = *pair;
+    const uint32_t answer = join_of(&library, &of_library);
+    bool same = accepted(name, call_join, answer);
+    for (unsigned index = 0; same && index < yardsticks; index++) {
+        of_yardstick = *pair;
+        const uint32_t other = join_of(yardstick[index].implementation, &of_yardstick);
+        const bool same_bytes = memcmp(of_yardstick.joined, of_library.joined, sizeof of_library.joined) == 0;
+        same = is_same(name, call_join, index, other == answer && same_bytes);
+    }
+    return same;
+}
+
+bool joins_agree(const struct pairs *pairs)
+{
+    bool same = true;
+    for (unsigned index = 0; same && index < pairs->count; index++)
+        same = join_agrees(&pairs->pairs[index], pairs->name);
     return same;
 }

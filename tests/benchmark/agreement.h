@@ -1,8 +1,9 @@
-/* Whether the yardsticks do what the library does. Rests on the sheets, the boards and the times. */
+/* Whether the yardsticks do what the library does. Rests on the sheets, the boards, the pairs and the times. */
 #ifndef BENCHMARK_AGREEMENT_H
 #define BENCHMARK_AGREEMENT_H
 
 #include "benchmark/boards.h"
+#include "benchmark/pairs.h"
 
 #include <stdbool.h>
 
@@ -12,5 +13,8 @@ bool prepare_group(struct group *group);
 
 /* The same of the ticks of a board, one after the other, as it has them. */
 bool ticks_agree(const struct board *board);
+
+/* And of the joins of pairs. */
+bool joins_agree(const struct pairs *pairs);
 
 #endif

@@ -26,15 +26,28 @@ static void plan_irregular(struct random *random, struct plan *plan, unsigned le
     };
 }
 
+/* Half of all that has a limit, but for the levels: two such sheets can be joined. */
+static void plan_half(struct random *random, struct plan *plan, unsigned length)
+{
+    plan_irregular(random, plan, length);
+    plan->wires /= 2;
+    plan->wire_bytes *= 2;
+    plan->outputs /= 2;
+    plan->cells_wanted /= 2;
+}
+
+typedef void planner(struct random *random, struct plan *plan, unsigned length);
+
 /* Generates sheets until one is correct and has about the length asked. */
-static void generate_irregular(struct random *random, struct generator *generator, struct buffer *bytes, unsigned length)
+static void generate_irregular(struct random *random, struct generator *generator, struct buffer *bytes, planner *make_plan,
+                               unsigned length)
 {
     bool fits = false;
     while (!fits) {
         memset(generator, 0, sizeof *generator);
         generator->random = random;
         generator->sheet = bytes;
-        plan_irregular(random, &generator->plan, length);
+        make_plan(random, &generator->plan, length);
         fits = generate_sheet(generator) && bytes->length >= length - length / 20 && bytes->length <= length + length / 50;
     }
 }
@@ -45,11 +58,11 @@ static size_t take(uint8_t *to, const struct buffer *from)
     return from->length;
 }
 
-static void make_sheet(struct random *random, struct sheet *sheet, unsigned length)
+static void make_sheet(struct random *random, struct sheet *sheet, planner *make_plan, unsigned length)
 {
     static struct generator generator;
     static struct buffer bytes;
-    generate_irregular(random, &generator, &bytes, length);
+    generate_irregular(random, &generator, &bytes, make_plan, length);
     sheet->length = take(sheet->bytes, &bytes);
     sheet->wires = generator.plan.wires;
     fill_memory(random, &generator, &bytes);
@@ -61,21 +74,26 @@ static void make_sheet(struct random *random, struct sheet *sheet, unsigned leng
     (void)take(sheet->schedule, &bytes);
 }
 
-static void make_group(struct group *group, const char *name, unsigned length)
+static void make_group(struct group *group, const char *name, planner *make_plan, unsigned length)
 {
     struct random random = {length};
     group->name = name;
     group->count = most_in_group;
     for (unsigned index = 0; index < group->count; index++)
-        make_sheet(&random, &group->sheets[index], length);
+        make_sheet(&random, &group->sheets[index], make_plan, length);
 }
 
 void make_irregular_2000(struct group *group)
 {
-    make_group(group, "random, 2,000 bytes", 2000);
+    make_group(group, "random, 2,000 bytes", plan_irregular, 2000);
 }
 
 void make_irregular_4000(struct group *group)
 {
-    make_group(group, "random, 4,000 bytes", 4000);
+    make_group(group, "random, 4,000 bytes", plan_irregular, 4000);
+}
+
+void make_irregular_halves(struct group *group)
+{
+    make_group(group, "halves, 2,000 bytes", plan_half, 2000);
 }

@@ -53,5 +53,7 @@ group_maker make_relay;
 /* irregular.c: eight random sheets of about 2,000 bytes, and eight of about 4,000. */
 group_maker make_irregular_2000;
 group_maker make_irregular_4000;
+/* irregular.c: eight of about 2,000 bytes, any two of which can be joined. Only pairs have them. */
+group_maker make_irregular_halves;
 
 #endif

@@ -10,11 +10,12 @@
 
 enum { stack_bytes = 1 << 18, paint = 0xa5 };
 
-/* A call of a sheet, or a tick of a board; without either nothing is called. */
+/* A call of a sheet, a tick of a board or a join of a pair; without any of them nothing is called. */
 struct job {
     enum call call;
     struct sheet *sheet;
     struct board *board;
+    struct pair *pair;
     uint32_t answer;
 };
 
@@ -25,6 +26,8 @@ static void *run_job(void *data)
         job->answer = call_of(&library, job->call, job->sheet);
     if (job->board != NULL)
         job->answer = tick_of(&library, job->board);
+    if (job->pair != NULL)
+        job->answer = join_of(&library, job->pair);
     return NULL;
 }
 
@@ -46,39 +49,46 @@ static size_t depth_of(struct job *job)
     return sizeof stack - untouched;
 }
 
-static size_t greater(size_t first, size_t second)
+static void try_job(size_t *deepest, struct job job)
 {
-    return first > second ? first : second;
+    const size_t depth = depth_of(&job);
+    if (depth > *deepest)
+        *deepest = depth;
 }
 
-/* What the thread takes by itself. */
-static size_t depth_of_nothing(void)
+/* Without what the thread takes by itself. */
+static size_t beyond_the_thread(size_t deepest)
 {
-    struct job nothing = {calls, NULL, NULL, 0};
-    return depth_of(&nothing);
+    struct job nothing = {.call = calls};
+    return deepest - depth_of(&nothing);
 }
 
 size_t stack_of_call(enum call call, struct group *groups, unsigned count)
 {
-    const size_t base = depth_of_nothing();
-    size_t deepest = base;
+    size_t deepest = 0;
     for (unsigned group = 0; group < count; group++) {
-        for (unsigned index = 0; index < groups[group].count; index++) {
-            struct job job = {call, &groups[group].sheets[index], NULL, 0};
-            deepest = greater(deepest, depth_of(&job));
-        }
+        for (unsigned index = 0; index < groups[group].count; index++)
+            try_job(&deepest, (struct job){.call = call, .sheet = &groups[group].sheets[index]});
     }
-    return deepest - base;
+    return beyond_the_thread(deepest);
 }
 
 size_t stack_of_tick(struct board *boards, unsigned count)
 {
-    const size_t base = depth_of_nothing();
-    size_t deepest = base;
+    size_t deepest = 0;
     for (unsigned index = 0; index < count; index++) {
-        struct job job = {call_tick, NULL, &boards[index], 0};
         for (unsigned tick = 0; tick < boards[index].count; tick++)
-            deepest = greater(deepest, depth_of(&job));
+            try_job(&deepest, (struct job){.call = call_tick, .board = &boards[index]});
     }
-    return deepest - base;
+    return beyond_the_thread(deepest);
+}
+
+size_t stack_of_join(struct pairs *pairs, unsigned count)
+{
+    size_t deepest = 0;
+    for (unsigned line = 0; line < count; line++) {
+        for (unsigned index = 0; index < pairs[line].count; index++)
+            try_job(&deepest, (struct job){.call = call_join, .pair = &pairs[line].pairs[index]});
+    }
+    return beyond_the_thread(deepest);
 }

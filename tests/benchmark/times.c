@@ -36,11 +36,12 @@ static double median(double *times)
     return times[samples / 2];
 }
 
-/* What a line times: a call of a group's sheets or, where there is one, the tick of a board. */
+/* What a line times: a call of a group's sheets or, where there is one, the tick of a board, or the joins of pairs. */
 struct timed {
     enum call call;
     const struct group *group;
     const struct board *board;
+    const struct pairs *pairs;
 };
 
 /* The time of one call, over all sheets of a group in turn. Each sample begins from the buffers as the group has them, so that every
@@ -68,8 +69,23 @@ static double time_of_ticks(const struct implementation *implementation, const s
     return (now() - start) / turns / copy.count;
 }
 
+/* The same of one join. */
+static double time_of_joins(const struct implementation *implementation, const struct pairs *pairs, unsigned turns)
+{
+    static struct pairs copy;
+    copy = *pairs;
+    const double start = now();
+    for (unsigned turn = 0; turn < turns; turn++) {
+        for (unsigned index = 0; index < copy.count; index++)
+            sink += join_of(implementation, &copy.pairs[index]);
+    }
+    return (now() - start) / turns / copy.count;
+}
+
 static double time_of(const struct implementation *implementation, const struct timed *timed, unsigned turns)
 {
+    if (timed->pairs != NULL)
+        return time_of_joins(implementation, timed->pairs, turns);
     if (timed->board != NULL)
         return time_of_ticks(implementation, timed->board, turns);
     return time_of_calls(implementation, timed->call, timed->group, turns);
@@ -103,12 +119,18 @@ static void print_line(const struct timed *timed, const char *name, unsigned cal
 
 void print_times(enum call call, const struct group *group)
 {
-    const struct timed timed = {call, group, NULL};
+    const struct timed timed = {.call = call, .group = group};
     print_line(&timed, group->name, group->count);
 }
 
 void print_times_of_ticks(const struct board *board)
 {
-    const struct timed timed = {call_tick, NULL, board};
+    const struct timed timed = {.call = call_tick, .board = board};
     print_line(&timed, board->name, board->count);
+}
+
+void print_times_of_joins(const struct pairs *pairs)
+{
+    const struct timed timed = {.call = call_join, .pairs = pairs};
+    print_line(&timed, pairs->name, pairs->count);
 }

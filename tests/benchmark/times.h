@@ -1,8 +1,9 @@
-/* How long a call takes. Rests on the sheets and the boards. */
+/* How long a call takes. Rests on the sheets, the boards and the pairs. */
 #ifndef BENCHMARK_TIMES_H
 #define BENCHMARK_TIMES_H
 
 #include "benchmark/boards.h"
+#include "benchmark/pairs.h"
 
 enum { yardsticks = 2 };
 
@@ -21,5 +22,8 @@ void print_times(enum call call, const struct group *group);
 
 /* That of the tick and a board. */
 void print_times_of_ticks(const struct board *board);
+
+/* That of the join and pairs. */
+void print_times_of_joins(const struct pairs *pairs);
 
 #endif

@@ -16,8 +16,6 @@ _Static_assert(sizeof meter == 91, "the places of the rows are counted in 91 byt
 #define FRAME(count, low_of_a, high_of_a, low_of_f, high_of_f, low_of_g, high_of_g) \
     BYTES(count, low_of_a, high_of_a, SHEET_A, low_of_f, high_of_f, SHEET_F, low_of_g, high_of_g, SHEET_G)
 
-#define ALL_OF(bytes) {bytes, sizeof(bytes)}
-
 /* A sheet of 4,097 bytes, alone and behind another. */
 static const uint8_t too_long[3 + 4097] = {1, 1, 16};
 static const uint8_t too_long_second[24 + 4097] = {2, ON_BOARD(SHEET_F), 1, 16};

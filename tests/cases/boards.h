@@ -8,7 +8,6 @@
 #include "cases/ways.h"
 
 /* A sheet as it stands in a board, behind its length of two bytes. */
-#define LENGTH_OF(...) sizeof((const uint8_t[]){__VA_ARGS__})
 #define ON_BOARD(...) LENGTH_OF(__VA_ARGS__) & 255, LENGTH_OF(__VA_ARGS__) >> 8, __VA_ARGS__
 
 /* Tariff, display and relay: A, F and G, whose lengths stand at 1, 43 and 64; 91 bytes. Cells 0 and 1 are A's, 2 is F's and 3 is G's; inputs

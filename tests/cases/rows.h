@@ -22,13 +22,18 @@ struct row {
     struct bytes schedule;
     struct bytes board;
     struct bytes state;
+    struct bytes first;
+    struct bytes second;
+    size_t joined_length;
     uint32_t refused;
     uint32_t place;
+    bool in_second; /* a join is refused for its second sheet */
     uint32_t answer;
     struct bytes memory_after;
     struct bytes output_after;
     struct bytes schedule_after;
     struct bytes state_after;
+    struct bytes joined_after;
 };
 
 struct table {
@@ -42,7 +47,9 @@ struct table {
  * a row gives no bytes. */
 enum { sixteen_bits = 65536, rubbish = 170 };
 
-#define BYTES(...) {(const uint8_t[]){__VA_ARGS__}, sizeof((const uint8_t[]){__VA_ARGS__})}
+#define LENGTH_OF(...) sizeof((const uint8_t[]){__VA_ARGS__})
+#define BYTES(...) {(const uint8_t[]){__VA_ARGS__}, LENGTH_OF(__VA_ARGS__)}
+#define ALL_OF(bytes) {bytes, sizeof(bytes)}
 
 /* Four bytes of a number from 0 to 255 or from -255 to -1, five bytes of a cell, and those of one that holds a number of four bytes. */
 #define NUMBER(low) low, 0, 0, 0
@@ -67,8 +74,8 @@ enum { sixteen_bits = 65536, rubbish = 170 };
 
 /* A lent list that holds rubbish, and a schedule made over it, with the greatest depth. */
 #define LENT(length) {NULL, length}
-#define MADE(title, depth, bytes, ...)                                                                                  \
-    {.name = title, .call = call_make, .sheet = BYTES(bytes), .schedule = LENT(sizeof((const uint8_t[]){__VA_ARGS__})), \
+#define MADE(title, depth, bytes, ...)                                                                  \
+    {.name = title, .call = call_make, .sheet = BYTES(bytes), .schedule = LENT(LENGTH_OF(__VA_ARGS__)), \
      .answer = depth, .schedule_after = BYTES(__VA_ARGS__)}
 
 #define TWICE(...) __VA_ARGS__, __VA_ARGS__

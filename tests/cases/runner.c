@@ -38,7 +38,7 @@ static bool holds(const struct guarded *guarded, const uint8_t *bytes)
     return same;
 }
 
-/* What a row gives to a call; the output row is rubbish. */
+/* What a row gives to a call; the output row and the buffer for a joined sheet are rubbish. */
 static struct bytes given_by(const struct row *row, enum role role)
 {
     const struct bytes given[roles] = {
@@ -49,6 +49,9 @@ static struct bytes given_by(const struct row *row, enum role role)
         [role_schedule] = row->schedule,
         [role_board] = row->board,
         [role_state] = row->state,
+        [role_first] = row->first,
+        [role_second] = row->second,
+        [role_joined] = {NULL, row->joined_length},
     };
     return given[role];
 }
@@ -61,6 +64,7 @@ static const uint8_t *expected_by(const struct row *row, enum call call, enum ro
         [role_output] = row->output_after,
         [role_schedule] = row->schedule_after,
         [role_state] = row->state_after,
+        [role_joined] = row->joined_after,
     };
     return may_write(call, role, row->refused) ? after[role].start : given_by(row, role).start;
 }
@@ -73,10 +77,17 @@ static bool all_hold(const struct row *row, enum call call, const struct guarded
     return hold;
 }
 
+static uint32_t answer_expected_by(const struct row *row)
+{
+    if (row->refused == 0)
+        return row->answer;
+    return row->refused * first_refusal + row->place + (row->in_second ? OF_SECOND : 0);
+}
+
 static bool passes(const struct row *row, enum call call)
 {
     static struct guarded buffers[roles];
-    const uint32_t expected = row->refused != 0 ? row->refused * first_refusal + row->place : row->answer;
+    const uint32_t expected = answer_expected_by(row);
     struct arguments arguments;
     for (unsigned role = 0; role < roles; role++) {
         arguments.of[role].bytes = guard(&buffers[role], given_by(row, role));
@@ -113,6 +124,23 @@ static bool passes_in_board(const struct row *row)
     return passes(&in_board, call_tick);
 }
 
+/* The sheet as the first of two that are joined, where the second would be refused too, and as the second behind one that passes. */
+static bool passes_as_first(const struct row *row)
+{
+    static const uint8_t cut[] = {0, 1};
+    const struct row join = {.name = row->name, .first = row->sheet, .second = ALL_OF(cut), .joined_length = row->sheet.length,
+                             .refused = row->refused, .place = row->place};
+    return passes(&join, call_join);
+}
+
+static bool passes_as_second(const struct row *row)
+{
+    static const uint8_t passing[] = {1, 0, 2, 0, 2, 1, 1, INPUT(0), 15, 0, LAST(1)};
+    const struct row join = {.name = row->name, .first = ALL_OF(passing), .second = row->sheet,
+                             .joined_length = row->sheet.length, .refused = row->refused, .place = row->place, .in_second = true};
+    return passes(&join, call_join);
+}
+
 static void count(struct tally *tally, bool passed)
 {
     if (passed)
@@ -125,7 +153,8 @@ void run_table(const struct table *table, struct tally *tally)
 {
     for (size_t index = 0; index < table->count; index++) {
         const struct row *const row = &table->rows[index];
-        /* A sheet that the check refuses is refused alike by all the others, and in a board; and each instant in rounds is previewed. */
+        /* A sheet that the check refuses is refused alike by all the others, in a board and in a join; and each instant in rounds is
+         * previewed. */
         const bool by_all = row->call == call_check && row->refused != 0;
         const unsigned first = row->call == call_rounds ? call_preview : row->call;
         const unsigned last = by_all ? calls_of_sheet - 1 : row->call;
@@ -133,5 +162,9 @@ void run_table(const struct table *table, struct tally *tally)
             count(tally, passes(row, call));
         if (by_all && row->sheet.length <= longest_board - place_of_second)
             count(tally, passes_in_board(row));
+        if (by_all) {
+            count(tally, passes_as_first(row));
+            count(tally, passes_as_second(row));
+        }
     }
 }

@@ -9,7 +9,7 @@
 #include <stddef.h>
 #include <stdint.h>
 
-/* Those of one sheet come first; the tick is that of a board. */
+/* Those of one sheet come first; the tick is that of a board, and the join takes two sheets. */
 enum call {
     call_check,
     call_start,
@@ -19,17 +19,34 @@ enum call {
     call_make,
     calls_of_sheet,
     call_tick = calls_of_sheet,
+    call_join,
     calls
 };
 
-enum role { role_sheet, role_memory, role_input, role_output, role_schedule, role_board, role_state, roles };
+enum role {
+    role_sheet,
+    role_memory,
+    role_input,
+    role_output,
+    role_schedule,
+    role_board,
+    role_state,
+    role_first,
+    role_second,
+    role_joined,
+    roles
+};
 
-static const char *const role_names[roles] = {"sheet", "memory", "input", "output", "schedule", "board", "state"};
+static const char *const role_names[roles] = {"sheet", "memory", "input", "output", "schedule",
+                                              "board", "state",  "first", "second", "joined"};
 
 /* The bytes of a tick's state; the last three mean nothing. */
 enum { state_due, state_restart, state_stored, state_number, state_sheet, bytes_of_state = 8 };
 
-enum { refusals = 22, refused_unknown = 20, first_refusal = 65536 };
+enum { refusals = 23, last_refusal_of_sheet = 11, refused_unknown = 20, first_refusal = 65536 };
+
+/* The highest bit of a join's answer: it refuses the second sheet. */
+#define OF_SECOND (UINT32_C(1) << 31)
 
 /* The refusals that documents 01 and 02 give to a call, the buffers that it may write where it is accepted, and those where it is refused
  * 20: one bit for each. */
@@ -46,6 +63,7 @@ struct call_rules {
 #define WRITES_OUTPUT (UINT32_C(1) << role_output)
 #define WRITES_SCHEDULE (UINT32_C(1) << role_schedule)
 #define WRITES_STATE (UINT32_C(1) << role_state)
+#define WRITES_JOINED (UINT32_C(1) << role_joined)
 
 static const struct call_rules rules_of[calls] = {
     [call_check] = {"check", REFUSALS_FROM_TO(1, 11), 0, 0},
@@ -55,7 +73,17 @@ static const struct call_rules rules_of[calls] = {
     [call_scheduled] = {"scheduled", REFUSALS_FROM_TO(1, 19), WRITES_MEMORY | WRITES_OUTPUT, 0},
     [call_make] = {"make", REFUSALS_FROM_TO(1, 11) | REFUSALS_FROM_TO(17, 17) | REFUSALS_FROM_TO(21, 21), WRITES_SCHEDULE, 0},
     [call_tick] = {"tick", REFUSALS_IN_ROUNDS | REFUSALS_FROM_TO(22, 22), WRITES_MEMORY | WRITES_OUTPUT | WRITES_STATE, WRITES_STATE},
+    [call_join] = {"join", REFUSALS_FROM_TO(1, 11) | REFUSALS_FROM_TO(16, 16) | REFUSALS_FROM_TO(23, 23), WRITES_JOINED, 0},
 };
+
+/* The number of the refusal that an answer is, or 0. That of a join's second sheet is the number that the sheet has by itself; an answer
+ * that has the highest bit and ought not to gives a number above all refusals. */
+static inline uint32_t refusal_of(enum call call, uint32_t answer)
+{
+    const uint32_t refused = (answer & ~OF_SECOND) / first_refusal;
+    const bool of_second = call == call_join && refused != 0 && refused <= last_refusal_of_sheet;
+    return of_second ? refused : answer / first_refusal;
+}
 
 /* Whether a call may write a buffer where it is refused with this number, or accepted with 0. */
 static inline bool may_write(enum call call, enum role role, uint32_t refused)
@@ -69,7 +97,8 @@ static inline bool may_write(enum call call, enum role role, uint32_t refused)
 }
 
 /* What a call is given; the check takes the sheet alone, the start sheet and memory, preview and rounds sheet, memory and rows, the
- * scheduled instant the schedule too, the maker sheet and schedule, and the tick board, memory, rows and state. */
+ * scheduled instant the schedule too, the maker sheet and schedule, the tick board, memory, rows and state, and the join two sheets and the
+ * joined one. */
 struct arguments {
     struct {
         uint8_t *bytes;
@@ -86,6 +115,7 @@ struct implementation {
                           size_t);
     uint32_t (*make)(const uint8_t *, size_t, uint8_t *, size_t);
     uint32_t (*tick)(const uint8_t *, size_t, uint8_t *, size_t, const uint8_t *, size_t, uint8_t *, size_t, uint8_t *, size_t);
+    uint32_t (*join)(const uint8_t *, size_t, const uint8_t *, size_t, uint8_t *, size_t);
 };
 
 /* An argument as the calls have it: a pointer and a length. */
@@ -107,9 +137,11 @@ static inline uint32_t run(const struct implementation *implementation, enum cal
                                          ARGUMENT(role_schedule));
     case call_make:
         return implementation->make(ARGUMENT(role_sheet), ARGUMENT(role_schedule));
-    default:
+    case call_tick:
         return implementation->tick(ARGUMENT(role_board), ARGUMENT(role_memory), ARGUMENT(role_input), ARGUMENT(role_output),
                                     ARGUMENT(role_state));
+    default:
+        return implementation->join(ARGUMENT(role_first), ARGUMENT(role_second), ARGUMENT(role_joined));
     }
 }
 

@@ -15,6 +15,7 @@
 #define probe_preview evaluator_preview
 #define probe_schedule evaluator_schedule
 #define probe_tick evaluator_tick
+#define probe_join evaluator_join
 #endif
 
 #include "common/calls.h"
@@ -22,6 +23,6 @@
 #include "nuthatchbed.h"
 
 static const struct implementation library = {nuthatchbed_check,     nuthatchbed_start, probe_preview, nuthatchbed_rounds,
-                                              nuthatchbed_scheduled, probe_schedule,    probe_tick};
+                                              nuthatchbed_scheduled, probe_schedule,    probe_tick,    probe_join};
 
 #endif

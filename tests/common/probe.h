@@ -23,4 +23,10 @@ uint32_t probe_preview(const uint8_t *sheet, size_t sheet_length, const uint8_t 
 uint32_t probe_tick(const uint8_t *board, size_t board_length, uint8_t *memory, size_t memory_length, const uint8_t *input,
                     size_t input_length, uint8_t *output, size_t output_length, uint8_t *state, size_t state_length);
 
+/* Joins two sheets into one, which fills a buffer of exactly its length, the sum of both lengths less 3. Answers 0, or a refusal 1 to 11
+ * of the first sheet; 1 to 11 of the second plus 2147483648, with the place counted in it; 23 where a joined count or the length is above
+ * its limit; then 16 for the buffer. */
+uint32_t probe_join(const uint8_t *first, size_t first_length, const uint8_t *second, size_t second_length, uint8_t *joined,
+                    size_t joined_length);
+
 #endif

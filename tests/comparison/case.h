@@ -6,6 +6,7 @@
 
 #include "comparison/harness.h"
 #include "generator/boards.h"
+#include "generator/pairs.h"
 #include "generator/sheets.h"
 
 /* A sheet with what is known of it. */
@@ -33,6 +34,10 @@ struct workspace {
     struct board board;
     struct buffers ticked;
     struct buffers tried;
+    struct board pair;
+    struct buffers joining;                     /* the join, then what the joined sheet is given */
+    struct buffers alone[sheets_of_pair];       /* what each of the two sheets is given by itself */
+    struct buffers alone_after[sheets_of_pair]; /* and what an instant leaves */
 };
 
 /* A step of a case, made behind the check of its sheet; it does nothing where the sheet is not one for it. */
@@ -56,6 +61,12 @@ step compare_board;
 /* frames.c: now and then the board of the step before, with its count and each byte of its lengths changed to every value, cut at every
  * place and made longer. */
 step compare_frames;
+
+/* One case in so many has a pair of sheets. */
+enum { cases_for_pair = 10 };
+
+/* joining.c: now and then a pair of sheets, whatever the sheet is: joined, with a buffer of every length, some damaged first. */
+step compare_joining;
 
 /* ---- instants.c, for other steps too ---- */
 
@@ -93,6 +104,11 @@ void demand_machine_start(struct harness *harness, const struct workspace *works
 
 /* The tick of "board" that stands in "given", with something damaged; "given" stays as it is. */
 void compare_damaged_tick(struct harness *harness, struct workspace *workspace);
+
+/* ---- joined_sheets.c ---- */
+
+/* The joined sheet that "joining" has, beside the two sheets of "pair": its start, and instants both ways. */
+void compare_joined_sheet(struct harness *harness, struct workspace *workspace);
 
 /* ---- ends.c ---- */
 

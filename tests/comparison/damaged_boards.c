@@ -5,7 +5,7 @@
 
 #include "generator/spoiling.h"
 
-enum { refused_sheet_length = 1, last_refusal_of_sheet = 11, refused_cell = 13, refused_input = 15, refused_frame = 22 };
+enum { refused_sheet_length = 1, refused_cell = 13, refused_input = 15, refused_frame = 22 };
 
 static size_t length_at(const struct buffer *board, size_t place)
 {

@@ -6,7 +6,7 @@
 
 enum { values_of_byte = 256, longer_by = 3 };
 
-enum { last_refusal_of_sheet = 11, refused_frame = 22 };
+enum { refused_frame = 22 };
 
 /* The changed board stands in "tried"; nothing may be left of it but a refusal. */
 static uint32_t compare_refused(struct harness *harness, struct workspace *workspace)

@@ -10,9 +10,11 @@
 #include <stdlib.h>
 #include <string.h>
 
-static void print_answer(const char *whose, uint32_t answer)
+static void print_answer(const char *whose, enum call call, uint32_t answer)
 {
-    printf("%s answers %u (refusal %u, place %u)\n", whose, (unsigned)answer, (unsigned)(answer >> 16), (unsigned)(answer & 65535u));
+    const char *const which = call == call_join && answer >= OF_SECOND ? " in the second sheet" : "";
+    printf("%s answers %u (refusal %u, place %u%s)\n", whose, (unsigned)answer, (unsigned)refusal_of(call, answer),
+           (unsigned)(answer % first_refusal), which);
 }
 
 static void print_bytes(const char *whose, const char *name, const uint8_t *bytes, size_t length)
@@ -27,8 +29,8 @@ _Noreturn void report_mismatch(struct harness *harness, enum call call, const st
 {
     printf("mismatch: %s\n", reason);
     printf("seed %llu, case %lu, call %s\n", (unsigned long long)harness->seed, harness->case_number, rules_of[call].name);
-    print_answer("library", harness->library_answer);
-    print_answer("evaluator", harness->evaluator_answer);
+    print_answer("library", call, harness->library_answer);
+    print_answer("evaluator", call, harness->evaluator_answer);
     for (unsigned role = 0; role < roles; role++) {
         const size_t length = before->of[role].length;
         print_bytes("before", role_names[role], before->of[role].bytes, length);
@@ -40,7 +42,7 @@ _Noreturn void report_mismatch(struct harness *harness, enum call call, const st
 
 static void demand_same_buffers(struct harness *harness, enum call call, const struct buffers *before)
 {
-    const uint32_t refused = harness->evaluator_answer / first_refusal;
+    const uint32_t refused = refusal_of(call, harness->evaluator_answer);
     for (unsigned role = 0; role < roles; role++) {
         const struct buffer *const old = &before->of[role];
         const uint8_t *const bytes = content(&harness->library, role);
@@ -53,7 +55,7 @@ static void demand_same_buffers(struct harness *harness, enum call call, const s
 
 static void demand_same(struct harness *harness, enum call call, const struct buffers *before)
 {
-    const uint32_t refused = harness->evaluator_answer / first_refusal;
+    const uint32_t refused = refusal_of(call, harness->evaluator_answer);
     if (!canaries_live(&harness->library))
         report_mismatch(harness, call, before, "library wrote outside its buffers");
     if (!canaries_live(&harness->evaluator))
@@ -74,7 +76,7 @@ uint32_t compare_call(struct harness *harness, enum call call, const struct buff
     harness->library_answer = call_of(&library, call, &harness->library);
     harness->evaluator_answer = call_of(&evaluator, call, &harness->evaluator);
     demand_same(harness, call, before);
-    harness->statistics.met[call][harness->library_answer / first_refusal]++;
+    harness->statistics.met[call][refusal_of(call, harness->library_answer)]++;
     if (after != before)
         copy_buffers(after, before);
     for (unsigned role = 0; role < roles; role++)

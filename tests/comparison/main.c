@@ -1,6 +1,6 @@
-/* Compares the library with the evaluator on random and damaged sheets, memories, rows and schedules, and on boards of sheets: the same
- * answer and the same bytes in every buffer, and directly demand 3, what a made schedule is and what a tick promises; then on pairs of
- * numbers. Rests on the generator, the harness and the steps.
+/* Compares the library with the evaluator on random and damaged sheets, memories, rows and schedules, on boards of sheets and on pairs that
+ * are joined: the same answer and the same bytes in every buffer, and directly demand 3, what a made schedule is and what a tick and a join
+ * promise; then on pairs of numbers. Rests on the generator, the harness and the steps.
  *
  * Usage: compare [CASES] [SEED]
  */
@@ -17,7 +17,7 @@
 
 /* What is tried of each sheet once its check was compared, in this order: a step put at the end leaves the cases of those before it
  * as they are. */
-static step *const steps[] = {compare_refused_sheet, compare_instants, compare_maker, compare_board, compare_frames};
+static step *const steps[] = {compare_refused_sheet, compare_instants, compare_maker, compare_board, compare_frames, compare_joining};
 
 enum { pairs_of_numbers = 1000000 };
 

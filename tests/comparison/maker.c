@@ -10,7 +10,7 @@
 
 #include <string.h>
 
-enum { last_refusal_of_sheet = 11, refused_for_length = 17, refused_for_order = 19, refused_for_loop = 21 };
+enum { refused_for_length = 17, refused_for_order = 19, refused_for_loop = 21 };
 
 /* ---- Where there is no list ---- */
 

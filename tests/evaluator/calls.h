@@ -6,6 +6,6 @@
 #include "evaluator/evaluator.h"
 
 static const struct implementation evaluator = {evaluator_check,     evaluator_start,    evaluator_preview, evaluator_rounds,
-                                                evaluator_scheduled, evaluator_schedule, evaluator_tick};
+                                                evaluator_scheduled, evaluator_schedule, evaluator_tick,    evaluator_join};
 
 #endif

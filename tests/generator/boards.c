@@ -140,8 +140,7 @@ static void damage_end(struct random *random, const struct board *board, struct 
     }
 }
 
-/* Another sheet that oversteps a limit or names what it may not, or this one damaged. */
-static void spoil_sheet(struct random *random, struct board *board, unsigned sheet)
+void spoil_sheet(struct random *random, struct board *board, unsigned sheet)
 {
     struct generator other;
     if (percent(random, 80)) {

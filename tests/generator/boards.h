@@ -37,6 +37,9 @@ void fill_inputs(struct random *random, const struct board *board, struct buffer
 /* Where the length of a sheet lies in the bytes, and behind the last sheet where they end. */
 size_t place_of_length(const struct board *board, unsigned sheet);
 
+/* Damages the bytes of a sheet, or puts others in their place that overstep a limit or name what they may not. */
+void spoil_sheet(struct random *random, struct board *board, unsigned sheet);
+
 /* The bytes of the board with count, lengths, end or a sheet damaged; the board itself stays as it is. */
 void damage_board(struct random *random, struct board *board, struct buffer *bytes);
 

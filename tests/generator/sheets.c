@@ -51,6 +51,7 @@ static bool generate_input(struct generator *generator, unsigned asked)
         return false;
     append(generator->sheet, 3);
     append(generator->sheet, input);
+    generator->above_inputs |= generator->above;
     return true;
 }
 

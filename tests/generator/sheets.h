@@ -75,6 +75,7 @@ struct generator {
     uint64_t lasts[most_wires]; /* the wires that its kinds 18 name */
     unsigned machines;
     unsigned above;          /* what the expression at hand stands under, one bit for each */
+    unsigned above_inputs;   /* what any input stands under */
     unsigned above_lasts;    /* what any kind 18 stands under */
     unsigned above_machines; /* what any machine stands under */
 };

@@ -104,3 +104,11 @@ void spoil_memory_and_rows(struct random *random, struct buffers *buffers)
 {
     spoil_some(random, buffers, false);
 }
+
+void spoil_contents(struct random *random, struct buffers *buffers)
+{
+    if (percent(random, 50))
+        spoil_cells(random, &buffers->of[role_memory]);
+    else
+        spoil_input(random, &buffers->of[role_input]);
+}

@@ -13,4 +13,7 @@ void spoil_rows(struct random *random, struct buffers *buffers);
 /* The same without the schedule. */
 void spoil_memory_and_rows(struct random *random, struct buffers *buffers);
 
+/* Spoils some cells or inputs; all lengths stay. */
+void spoil_contents(struct random *random, struct buffers *buffers);
+
 #endif

@@ -1,5 +1,5 @@
 // The calls that the C library does not have, for the tests to reach from C; no part of what is delivered. Each returns a packed
-// number as those of the C library do. Rests on `maker`, `in_rounds` and `tick` for the calls themselves.
+// number as those of the C library do. Rests on `maker`, `in_rounds`, `tick` and `joining` for the calls themselves.
 use board::Standing;
 use board::Ticked;
 use maker::Made;
@@ -9,6 +9,7 @@ ghost use lib.ListN.{length};
 ghost use Rattle.kernel.specs.Calls.{roundsCall, packedRounds};
 ghost use Rattle.maker.specs.Making.{makerCall, packedMade};
 ghost use Rattle.board.specs.Ticks.{PackableTick};
+ghost use Rattle.join.specs.Calls.{joinCall, packedJoining};
 ghost use Rattle.probe.specs.Ticks.{probeTick, Probes, stateAfter};
 
 // The maker of a schedule: the greatest depth, or a refusal; the list gets the schedule.
@@ -83,4 +84,14 @@ fn note(state: &mut [u8], answer: Ticked, standing: Standing)
             state[4] = sheet as u8;
         }
     }
+}
+
+// Two sheets into one: 0, or a refusal, with the highest bit where it is the second sheet's; the buffer gets the joined sheet.
+#[no_mangle]
+pub extern "C" fn probe_join(first: &[u8], second: &[u8], joined: &mut [u8]) -> u32
+    ensures { λ r. ⌜ r ≡ packedJoining (joinCall (now (first .entry)) (now (second .entry)) (now (joined .entry)) .answer) ⌝ }
+    ensures { λ _. ⌜ now (joined .exit) ≡ joinCall (now (first .entry)) (now (second .entry)) (now (joined .entry)) .joined ⌝ }
+{
+    let answer = joining::join(first, second, joined);
+    joining::packed(answer)
 }

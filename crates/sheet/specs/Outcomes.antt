@@ -7,7 +7,7 @@ use Rattle.sheet.specs.declared.Refusal.{Refusal}
 use Rattle.sheet.specs.declared.Refusal.the-variants.{SheetLength, Cut, CountRange, TypeByte, OutputWire}
 use Rattle.sheet.specs.declared.Refusal.the-variants.{Kind, Body, Level, TypeAsked, CellLimit, LeftOver}
 use Rattle.sheet.specs.declared.Refusal.the-variants.{MemoryLength, CellContent, InputLength, InputContent, OutputLength}
-use Rattle.sheet.specs.declared.Refusal.the-variants.{ScheduleLength, ScheduleEntry, ScheduleOrder, StaysUnknown, NoSchedule, BoardFrame}
+use Rattle.sheet.specs.declared.Refusal.the-variants.{ScheduleLength, ScheduleEntry, ScheduleOrder, StaysUnknown, NoSchedule, BoardFrame, JoinedLimit}
 
 abbrev pub numberOf : Refusal → ℕ
 numberOf SheetLength = 1
@@ -32,6 +32,7 @@ numberOf ScheduleOrder = 19
 numberOf StaysUnknown = 20
 numberOf NoSchedule = 21
 numberOf BoardFrame = 22
+numberOf JoinedLimit = 23
 
 -- a refusal as one number, as the C library returns it
 abbrev pub packedRefusal : Refusal → ℕ → ℕ

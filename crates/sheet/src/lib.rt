@@ -42,6 +42,7 @@ pub enum Refusal {
     StaysUnknown,
     NoSchedule,
     BoardFrame,
+    JoinedLimit,
 }
 
 // What reading at a place finds: a refusal, or the place past what was read and a number. The number is a count or a byte of

@@ -31,6 +31,7 @@ pub fn number(why: Refusal) -> u32
         Refusal::StaysUnknown => 20,
         Refusal::NoSchedule => 21,
         Refusal::BoardFrame => 22,
+        Refusal::JoinedLimit => 23,
     }
 }
 

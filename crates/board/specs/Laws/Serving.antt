@@ -23,6 +23,7 @@ use Rattle.kernel.specs.Instants.{outputRow}
 use Rattle.kernel.specs.Calls.{Given, givenOf, Accepted as Gives, inRounds, InstantCall, roundsAnswer, roundsCall}
 use Rattle.kernel.specs.Laws.Accepted.{memory-after}
 use Rattle.kernel.specs.Laws.Answers.{RefusedBefore, demand2-answered}
+use Rattle.kernel.specs.Laws.Given.{by-given}
 use Rattle.kernel.specs.declared.InRounds.{InRounds}
 use Rattle.kernel.specs.declared.InRounds.the-variants.{Refused, Accepted}
 use Rattle.board.specs.Boards.{bytesOf}
@@ -88,11 +89,7 @@ module _ {s own from input output : List ℕ} {sheet : Sheet} (ready : Ready s o
   readyGiven = record { sheet = sheet; inputs = ready .inputs .0; memory = ready .fromCells .0 }
 
   pub ready-given : givenOf s from input output ≡ result readyGiven
-  unfolding givenOf
-  ready-given =
-      rw (ready .read)
-      (rw (ready .fromCells .1)
-      (rw (ready .inputs .1) (rw (eq-eqb (length output) (4 * length (sheet .outputs)) (ready .outputs)))))
+  ready-given = by-given (record { sheet = ready .read; cells = ready .fromCells .1; inputs = ready .inputs .1; outputs = ready .outputs })
 
   -- so it is refused with 20, or accepted
   refused-only : {why : Refusal} {place : ℕ} → roundsCall s from input output .answer ≡ Refused why place → why ≡ StaysUnknown

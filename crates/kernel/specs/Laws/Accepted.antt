@@ -1,5 +1,5 @@
 -- An accepted instant, from the answer of the call, wire by wire: the types of what it is worked out under, the value of each wire and the cells
--- that the instant leaves of it; and an instant that is accepted along a schedule as one that is accepted in rounds.
+-- that the instant leaves of it; what an accepted instant comes to as a whole, and one that is accepted along a schedule as one in rounds.
 use Prim.Native.Nat.{ℕ, zero, suc, _+_, _<_}
 use mathlib.Core.Path.{_≡_, refl, sym, ap, _∙_}
 use mathlib.Core.Bool.{Bool, false}
@@ -11,7 +11,8 @@ use lib.Seq.{take-at, drop-append-add}
 use Rattle.sheet.specs.Data.{ValueType}
 use Rattle.sheet.specs.Expressions.{Expression, cellForms, cellCount}
 use Rattle.sheet.specs.Outcomes.{Outcome, refusal, result, followedBy}
-use Rattle.sheet.specs.Memory.{memoryOf}
+use Rattle.sheet.specs.Memory.{memoryBytes, memoryOf}
+use Rattle.sheet.specs.Rows.{rowBytes}
 use Rattle.sheet.specs.Sheets.{formsOf, sheetForms, expressionAt, cellsBefore}
 use Rattle.sheet.specs.Typing.{done, _then_, HasType, HaveTypes, WellTyped, ValidMemory, ValidRow}
 use Rattle.sheet.specs.Laws.Lists.{never}
@@ -20,18 +21,19 @@ use Rattle.kernel.specs.Values.{Has}
 use Rattle.kernel.specs.Order.{valueAt}
 use Rattle.kernel.specs.Instant.{Environment, value, stored}
 use Rattle.kernel.specs.Systems.{Full, Solution}
-use Rattle.kernel.specs.Instants.{wireCount, storedCells, lastsOf, under, finished, nextMemory}
-use Rattle.kernel.specs.Schedules.{scheduleOf, pass}
-use Rattle.kernel.specs.Calls.{Given, givenOf, acceptedOf, scheduled, scheduledAnswer, roundsCall, scheduledCall}
+use Rattle.kernel.specs.Instants.{wireCount, storedCells, lastsOf, under, finished, nextMemory, outputRow}
+use Rattle.kernel.specs.Schedules.{scheduleOf, IsSchedule, pass}
+use Rattle.kernel.specs.Calls.{Given, givenOf, InstantCall, acceptedOf, scheduled, scheduledAnswer, roundsCall, scheduledCall}
 use Rattle.kernel.specs.Laws.Instants.{behind-first, value-of-wire, round-at}
 use Rattle.kernel.specs.Laws.Typing.{OnWires, ValidFrom, parts, valid-from-start}
 use Rattle.kernel.specs.Laws.Storing.{stored-length}
 use Rattle.kernel.specs.Laws.Solutions.{finished-solution}
 use Rattle.kernel.specs.Laws.Schedules.{schedule-passed, passed-schedule}
-use Rattle.kernel.specs.Laws.Demands.{givenRounds, demand3}
+use Rattle.kernel.specs.Laws.Demands.{givenRounds, givenFinished, demand2, scheduled-accepted, demand3}
 use Rattle.kernel.specs.Laws.Memory.{lasts-valid, finished-has, next-memory-valid, next-memory-back, given-valid}
 use Rattle.kernel.specs.Laws.Answers.{AcceptedAfter, demand2-answered}
 use Rattle.kernel.specs.declared.Value.{Value}
+use Rattle.kernel.specs.declared.InRounds.{InRounds}
 use Rattle.kernel.specs.declared.InRounds.the-variants.{Accepted}
 use Rattle.kernel.specs.declared.Scheduled.the-variants.{Accepted as AcceptedScheduled}
 
@@ -156,27 +158,76 @@ module _ (s memory input output : List ℕ) {r : ℕ} (accepted : roundsCall s m
             (types .sheet) (valid-from-start (types .held)) l ∙ rw zero-add;
       }
 
--- an instant that is accepted along a schedule is accepted in rounds too, and leaves the same memory
+-- what an instant comes to that passes 1 to 16 and leaves no wire unknown
+module _ (s memory input output : List ℕ) (given : Given) (passes : givenOf s memory input output ≡ result given) where
+  pub full-accepted : Full (wireCount (given .sheet)) (givenFinished given)
+      → roundsCall s memory input output ≡ record {
+        answer = Accepted (givenRounds given);
+        memory = memoryBytes (nextMemory (given .sheet) (given .inputs) (given .memory) (givenFinished given));
+        output = rowBytes (outputRow (given .sheet) (givenFinished given));
+      }
+  unfolding roundsCall
+  full-accepted full = rw (passes, demand2 given .accepted full)
+
+  pub schedule-accepted : (list : List ℕ) → IsSchedule (given .sheet) list
+      → scheduledCall s memory input output list ≡ record {
+        answer = AcceptedScheduled;
+        memory = memoryBytes (nextMemory (given .sheet) (given .inputs) (given .memory) (givenFinished given));
+        output = rowBytes (outputRow (given .sheet) (givenFinished given));
+      }
+  unfolding scheduledCall
+  schedule-accepted list schedule = rw (passes, scheduled-accepted given list schedule .2)
+
+-- and every accepted instant is such a one
+module _ (s memory input output : List ℕ) where
+  pub record AcceptedFull (r : ℕ) : Type 0 where
+    pub given : Given
+    pub passes : givenOf s memory input output ≡ result given
+    pub full : Full (wireCount (given .sheet)) (givenFinished given)
+    pub rounds : r ≡ givenRounds given
+
+  pub accepted-full : {r : ℕ} → roundsCall s memory input output .answer ≡ Accepted r → AcceptedFull r
+  accepted-full {r} accepted =
+      let given = solved s memory input output accepted .given in
+      let passes = solved s memory input output accepted .passes in
+      let full : Full (wireCount (given .sheet)) (givenFinished given) =
+      rw (finally s memory input output accepted) (solved s memory input output accepted .full) in
+      let same : Accepted r ≡ Accepted (givenRounds given) =
+      sym accepted ∙ ap (λ (x : InstantCall InRounds). x .answer) (full-accepted s memory input output given passes full) in
+      record { given = given; passes = passes; full = full; rounds = cc }
+
+-- an instant that is accepted along a schedule: the list is one, so that it is accepted in rounds too, and leaves the same memory
 module _ (s memory input output list : List ℕ) where
+  pub record AcceptedAlong : Type 0 where
+    pub given : Given
+    pub passes : givenOf s memory input output ≡ result given
+    pub schedule : IsSchedule (given .sheet) list
+
+  pub accepted-along : scheduledCall s memory input output list .answer ≡ AcceptedScheduled → AcceptedAlong
+  unfolding scheduledCall scheduled
+  accepted-along = by (givenOf s memory input output) refl
+    where
+      along : (given : Given) → givenOf s memory input output ≡ result given → (o : Outcome (List ℕ)) → scheduleOf (given .sheet) list ≡ o
+          → scheduledAnswer (followedBy o (λ order. acceptedOf given 0 (pass (given .sheet) (given .inputs) (given .memory) order)))
+          ≡ AcceptedScheduled → AcceptedAlong
+      along given passes (refusal why place) e a = never (cc)
+      along given passes (result order) e a =
+          let listed = schedule-passed (given .sheet) list order e .1 in
+          record { given = given; passes = passes; schedule = passed-schedule (given .sheet) list listed }
+
+      by : (o : Outcome Given) → givenOf s memory input output ≡ o
+          → scheduledAnswer (followedBy o (λ given. scheduled given list)) ≡ AcceptedScheduled → AcceptedAlong
+      by (refusal why place) e a = never (cc)
+      by (result given) e a = along given e (scheduleOf (given .sheet) list) refl a
+
   pub record AsInRounds : Type 0 where
     pub rounds : ℕ
     pub accepted : roundsCall s memory input output .answer ≡ Accepted rounds
     pub same : scheduledCall s memory input output list .memory ≡ roundsCall s memory input output .memory
 
   pub as-in-rounds : scheduledCall s memory input output list .answer ≡ AcceptedScheduled → AsInRounds
-  unfolding scheduledCall scheduled
-  as-in-rounds = by (givenOf s memory input output) refl
-    where
-      along : (given : Given) → givenOf s memory input output ≡ result given → (o : Outcome (List ℕ)) → scheduleOf (given .sheet) list ≡ o
-          → scheduledAnswer (followedBy o (λ order. acceptedOf given 0 (pass (given .sheet) (given .inputs) (given .memory) order)))
-          ≡ AcceptedScheduled → AsInRounds
-      along given passes (refusal why place) e a = never (cc)
-      along given passes (result order) e a =
-          let listed = schedule-passed (given .sheet) list order e .1 in
-          let d = demand3 s memory input output output list given given passes passes (passed-schedule (given .sheet) list listed) in
-          record { rounds = givenRounds given; accepted = d .inRoundsAccepted; same = sym (d .sameMemory) }
-
-      by : (o : Outcome Given) → givenOf s memory input output ≡ o
-          → scheduledAnswer (followedBy o (λ given. scheduled given list)) ≡ AcceptedScheduled → AsInRounds
-      by (refusal why place) e a = never (cc)
-      by (result given) e a = along given e (scheduleOf (given .sheet) list) refl a
+  as-in-rounds a =
+      let along = accepted-along a in
+      let given = along .given in
+      let d = demand3 s memory input output output list given given (along .passes) (along .passes) (along .schedule) in
+      record { rounds = givenRounds given; accepted = d .inRoundsAccepted; same = sym (d .sameMemory) }

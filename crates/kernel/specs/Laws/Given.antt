@@ -3,6 +3,7 @@ use mathlib.Core.Path.{_≡_, sym, ap, subst, _∙_}
 use Prim.Native.Nat.{ℕ, _*_}
 use mathlib.Core.List.{List}
 use lib.ListN.{length}
+use borrow.Author.Tests.{eq-eqb}
 use Rattle.sheet.specs.Outcomes.{result}
 use Rattle.sheet.specs.Sheets.{Sheet, sheetForms, sheetOf}
 use Rattle.sheet.specs.Memory.{memoryOf}
@@ -25,6 +26,13 @@ given-by s memory input output given e =
     let (inputs, e₅, e₆) = followed (inputsOf (sheet .inputTypes) input) _ e₄ in
     let (sized, e₇) = length-passed _ (length output) (4 * length (sheet .outputs)) _ e₆ in
     subst (GivenBy s memory input output) (same-result e₇) (record { sheet = e₁; cells = e₃; inputs = e₅; outputs = sized })
+
+pub by-given : {s memory input output : List ℕ} {given : Given} → GivenBy s memory input output given
+    → givenOf s memory input output ≡ result given
+unfolding givenOf
+by-given {output = output} {given} g =
+    rw (g .sheet)
+    (rw (g .cells) (rw (g .inputs) (rw (eq-eqb (length output) (4 * length (given .sheet .outputs)) (g .outputs)))))
 
 -- of the output row only the length counts
 pub given-row : (s memory input output other : List ℕ) → length output ≡ length other

@@ -10,7 +10,7 @@ use Rattle.sheet.specs.Data.{typeOfByte, isKept}
 use Rattle.sheet.specs.Expressions.{isKeptWire}
 use Rattle.sheet.specs.Outcomes.{refusal, result}
 use Rattle.sheet.specs.Readings.{Reading, refused, got}
-use Rattle.sheet.specs.Sheets.{Sheet, sheetForms, expressionAt, before, keptCount, readWires, readSheet, sheetOf, checkedOf, checkOf}
+use Rattle.sheet.specs.Sheets.{Sheet, sheetForms, expressionAt, before, keptCount, readWires, readSheet, outcomeOf, sheetOf, checkedOf, checkOf}
 use Rattle.sheet.specs.Laws.Headers.{SheetRead, sheet-view, section-good, section-length}
 use Rattle.sheet.specs.Laws.Lists.{never}
 use Rattle.sheet.specs.Laws.Typing.{read-passed, read-counted, passed-check}
@@ -26,6 +26,19 @@ check-refused s {why} {place} = go (readSheet s) refl
     go : (x : Reading Sheet) → readSheet s ≡ x → checkedOf x ≡ Refused why place → sheetOf s ≡ refusal why place
     go (refused found at) q h = rw q (cc)
     go (got sheet next count) q h = never (cc)
+
+-- and towards the answer: the refusal, or the four counts
+pub refused-checked : (s : List ℕ) {why : Refusal} {place : ℕ} → sheetOf s ≡ refusal why place → checkOf s ≡ Refused why place
+unfolding sheetOf
+refused-checked s {why} {place} = go (readSheet s) refl
+  where
+    go : (x : Reading Sheet) → readSheet s ≡ x → outcomeOf x ≡ refusal why place → checkOf s ≡ Refused why place
+    go (refused found at) q h = rw q (cc)
+    go (got sheet next count) q h = never (cc)
+
+pub passed-checked : (s : List ℕ) {sheet : Sheet} → sheetOf s ≡ result sheet
+    → checkOf s ≡ Passed (length (sheet .inputTypes)) (length (sheet .wireTypes)) (length (sheet .outputs)) (length (sheetForms sheet))
+passed-checked s e = let p = passed-check s e in rw (p .read, p .counted)
 
 -- a wire of a sheet that passes is kept just where its type byte says so: the types of the wires stand behind those of the inputs
 pub kept-by-byte : (s : List ℕ) {sheet : Sheet} → sheetOf s ≡ result sheet → (w : ℕ) → w < length (sheet .expressions)

@@ -24,7 +24,7 @@ use Rattle.sheet.specs.declared.Refusal.{Refusal}
 use Rattle.sheet.specs.declared.Refusal.the-variants.{SheetLength, Cut, CountRange, TypeByte, OutputWire}
 use Rattle.sheet.specs.declared.Refusal.the-variants.{Kind, Body, Level, TypeAsked, CellLimit, LeftOver}
 use Rattle.sheet.specs.declared.Refusal.the-variants.{MemoryLength, CellContent, InputLength, InputContent, OutputLength}
-use Rattle.sheet.specs.declared.Refusal.the-variants.{ScheduleLength, ScheduleEntry, ScheduleOrder, StaysUnknown, NoSchedule, BoardFrame}
+use Rattle.sheet.specs.declared.Refusal.the-variants.{ScheduleLength, ScheduleEntry, ScheduleOrder, StaysUnknown, NoSchedule, BoardFrame, JoinedLimit}
 use Rattle.sheet.specs.declared.Read.{Read}
 use Rattle.sheet.specs.declared.Read.the-variants.{Refused, Got}
 use Rattle.sheet.specs.declared.Checked.the-variants.{Refused as RefusedSheet}
@@ -257,7 +257,7 @@ start-refusals s memory {why} {place} = go (startOutcome s memory) (start-within
     go (result bytes) result-within e = absurd (let z : _≡_ {A = ℕ} 0 1 = cc in omega arith)
 
 -- a number that is packed keeps number and place apart
-pub numbers-few : (why : Refusal) → numberOf why ≤ 22
+pub numbers-few : (why : Refusal) → numberOf why ≤ 23
 numbers-few SheetLength = omega arith
 numbers-few Cut = omega arith
 numbers-few CountRange = omega arith
@@ -280,3 +280,4 @@ numbers-few ScheduleOrder = omega arith
 numbers-few StaysUnknown = omega arith
 numbers-few NoSchedule = omega arith
 numbers-few BoardFrame = omega arith
+numbers-few JoinedLimit = omega arith

@@ -1,0 +1,16 @@
+pub mod Limits
+pub mod Parts
+pub mod Shifted
+pub mod Wires
+pub mod Systems
+pub mod Instants
+pub mod Buffers
+pub mod Reads
+pub mod Schedules
+pub mod Headers
+pub mod Sections
+pub mod Readings
+pub mod Bytes
+pub mod Raised
+pub mod Runs
+pub mod Calls

@@ -8,12 +8,12 @@
 
 extern const struct table cases_a_to_l, cases_of_limits, cases_of_sheet_refusals, cases_of_row_refusals, cases_of_readings,
     cases_of_arithmetic, cases_of_rounds, cases_of_waiting, cases_of_schedules, cases_of_depths, cases_of_kept,
-    cases_of_machines, cases_of_boards, cases_of_ticks, cases_of_restarts, cases_of_joining, cases_of_joined;
+    cases_of_machines, cases_of_boards, cases_of_ticks, cases_of_joining, cases_of_joined;
 
 static const struct table *const tables[] = {
     &cases_a_to_l, &cases_of_limits, &cases_of_sheet_refusals, &cases_of_row_refusals, &cases_of_readings, &cases_of_arithmetic,
     &cases_of_rounds, &cases_of_waiting, &cases_of_schedules, &cases_of_depths, &cases_of_kept,
-    &cases_of_machines, &cases_of_boards, &cases_of_ticks, &cases_of_restarts, &cases_of_joining, &cases_of_joined,
+    &cases_of_machines, &cases_of_boards, &cases_of_ticks, &cases_of_joining, &cases_of_joined,
 };
 
 int main(void)

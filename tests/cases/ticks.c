@@ -1,6 +1,5 @@
 /* What a tick of a board serves, stores and leaves (document 02, K9): the ring, marks and number, parts of memory and rows, restarts, sheets
- * refused 20, and states of another length; restarts of kept wires have rows of their own. Rests on the words of boards and on sheets of
- * its own.
+ * refused 20, and states of another length. Rests on the words of boards and on sheets of its own.
  */
 #include "cases/boards.h"
 
@@ -222,10 +221,10 @@ static const struct row rows[] = {
          BYTES(CELL(1, 9), CELL(1, 40), CELL(1, 50), CELL(1, 60), CELL(1, 1), CELL(1, 1), CELL(1, 0)), NOTHING, 2, SERVED(2, 1, 0, 1),
          BYTES(CELL(1, 9), CELL(1, 41), CELL(1, 51), CELL(1, 61), CELL(1, 0), CELL(1, 0), CELL(1, 1)), UNWRITTEN, NUMBER(41), NUMBER(51),
          NUMBER(60), NUMBER(1), NUMBER(0), NUMBER(1)),
-    TICK("every cell: restarted but the kept ones", F_AND_EVERY_CELL, MARKS(2, 2, 0, 1),
+    TICK("every cell: restarted, the kept ones too", F_AND_EVERY_CELL, MARKS(2, 2, 0, 1),
          BYTES(CELL(1, 9), CELL(1, 40), CELL(1, 50), CELL(1, 60), CELL(1, 1), CELL(1, 1), CELL(1, 0)), NOTHING, 2, SERVED(2, 2, 0, 1),
-         BYTES(CELL(1, 9), CELL(1, 41), CELL(1, 6), CELL(1, 4), CELL(1, 1), CELL(1, 0), CELL(1, 0)), UNWRITTEN, NUMBER(41), NUMBER(6),
-         NUMBER(3), NUMBER(2), NUMBER(0), NUMBER(0)),
+         BYTES(CELL(1, 9), CELL(1, 1), CELL(1, 6), CELL(1, 4), CELL(1, 1), CELL(1, 1), CELL(1, 0)), UNWRITTEN, NUMBER(1), NUMBER(6),
+         NUMBER(3), NUMBER(2), NUMBER(1), NUMBER(0)),
     TICK("resting cells: run on", RESTING_AND_F, MARKS(1, 0, 0, 1), RESTING_AWAY, BYTES(NUMBER(0)), 2, SERVED(1, 0, 0, 0),
          BYTES(CELL(1, 40), CELL(1, 8), CELL(1, 1), CELL(1, 42), CELL(1, 21), CELL(1, 9)), NUMBER(41), NUMBER(43), UNWRITTEN),
     TICK("resting cells: restarted, the input false", RESTING_AND_F, MARKS(1, 1, 0, 1), RESTING_AWAY, BYTES(NUMBER(0)), 2,

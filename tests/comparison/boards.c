@@ -1,7 +1,7 @@
 /* The step of a case that ticks a board, from tick to tick with what the one before handed back. Beside the comparison with the evaluator
  * marks, number and what the generator knows of the sheets tell which one is served and what may be written; due sheets are counted until
  * they are served; what the other sheets hold must play no part, and the sheet by itself must give the same. Rests on the harness, on the
- * generator's boards, on restarts.c and on the evaluator's start.
+ * generator's boards and on the evaluator's start.
  */
 #include "comparison/case.h"
 
@@ -11,7 +11,7 @@
 
 enum { fewest_ticks = 50, most_ticks = 60 };
 
-enum { new_board = 255, all_marks = 255 };
+enum { kind_last = 18, new_board = 255 };
 
 /* How often sheets are marked, in percent of the ticks; for each sheet the ticks since it became due, or 0 where it is not, and whether it
  * was accepted so far. */
@@ -178,7 +178,7 @@ static bool is_part(const struct workspace *workspace, enum role role, unsigned 
     return memcmp(workspace->tried.of[role].bytes, bytes, part.length) == 0;
 }
 
-/* The restart, if any, and the instant in rounds on its own parts: refused 20 or accepted, they must leave what the tick left. */
+/* The start where it is restarted, and the instant in rounds on its own parts: refused 20 or accepted, they must leave what the tick left. */
 static void demand_rounds(struct harness *harness, struct workspace *workspace, const struct turn *turn, uint32_t answer)
 {
     struct buffers *const tried = &workspace->tried;
@@ -188,18 +188,32 @@ static void demand_rounds(struct harness *harness, struct workspace *workspace, 
     for (unsigned role = role_memory; role <= role_output; role++)
         take_part(workspace, role, turn->sheet, &tried->of[role]);
     if (turn->restarts)
-        restart_alone(harness, workspace, turn->sheet);
+        (void)compare_call(harness, call_start, tried, tried);
     const bool same_answer = compare_call(harness, call_rounds, tried, tried) == answer;
     const bool same_parts = is_part(workspace, role_memory, turn->sheet) && is_part(workspace, role_output, turn->sheet);
     if (!same_answer || (answer < first_refusal && !same_parts))
-        report_mismatch(harness, call_tick, &workspace->given,
-                        turn->restarts ? "K11: the sheet restarted gives something else by itself"
-                                       : "K9: the sheet served gives something else by itself");
+        report_mismatch(harness, call_tick, &workspace->given, "K9: the sheet served gives something else by itself");
     harness->statistics.count[counter_ticks_by_rounds]++;
-    harness->statistics.count[counter_ticks_by_rounds_kept_away] += turn->restarts && is_away(workspace, turn->sheet, true);
 }
 
 /* ---- What was met ---- */
+
+/* Whether the memory of a sheet is away from its start, in any cell or in a kept one. */
+static bool is_away(const struct workspace *workspace, unsigned sheet, bool kept_alone)
+{
+    const struct board *const board = &workspace->board;
+    const struct part part = part_of(board, role_memory, sheet);
+    const uint8_t *const memory = workspace->given.of[role_memory].bytes + part.start;
+    uint8_t start[bytes_of_cell * most_cells];
+    bool away = false;
+    (void)evaluator_start(board->bytes[sheet].bytes, board->bytes[sheet].length, start, part.length);
+    for (unsigned cell = 0; cell < board->sheets[sheet].cells; cell++) {
+        const size_t place = (size_t)bytes_of_cell * cell;
+        const bool counts = !kept_alone || board->sheets[sheet].cell_kind[cell] == kind_last;
+        away = away || (counts && memcmp(start + place, memory + place, bytes_of_cell) != 0);
+    }
+    return away;
+}
 
 static void note_served(unsigned long *count, const struct workspace *workspace, const struct turn *turn, struct sequence *sequence,
                         bool unknown)
@@ -238,21 +252,17 @@ static void note_marks(unsigned long *count, const struct workspace *workspace, 
 
 /* ---- The sequence ---- */
 
-/* Marks above the count come too, and now and then all of them. */
+/* Marks above the count come too. */
 static unsigned random_marks(struct random *random, unsigned share)
 {
     if (!percent(random, share))
         return 0;
     const unsigned one = 1u << below(random, most_sheets);
     const unsigned other = 1u << below(random, most_sheets);
-    switch (below(random, 8)) {
+    switch (below(random, 4)) {
     case 0:
-        return all_marks;
-    case 1:
-    case 2:
         return one | other;
-    case 3:
-    case 4:
+    case 1:
         return below(random, 256);
     default:
         return one;
@@ -296,9 +306,6 @@ static void prepare_tick(struct harness *harness, struct workspace *workspace, u
     fill_with_rubbish(random, &given->of[role_output], length_of_parts(&workspace->board, role_output));
     state[state_due] = (uint8_t)random_marks(random, busy);
     state[state_restart] = (uint8_t)random_marks(random, 40);
-    const struct turn turn = turn_of(&workspace->board, given);
-    if (turn.serves && percent(random, 15))
-        state[state_restart] |= (uint8_t)(1u << turn.sheet);
     for (unsigned index = state_sheet; index < bytes_of_state; index++)
         state[index] = (uint8_t)below(random, 256);
 }
@@ -315,10 +322,9 @@ static void compare_tick(struct harness *harness, struct workspace *workspace, s
     note_marks(count, workspace, &turn);
     if (turn.serves)
         note_served(count, workspace, &turn, sequence, answer >= first_refusal);
-    compare_rules(harness, workspace, answer, turn.restarts && is_away(workspace, turn.sheet, true));
     if (turn.serves && percent(&harness->random, 20))
         demand_alone(harness, workspace, &turn, answer);
-    if (turn.serves && (turn.restarts || percent(&harness->random, 20)))
+    if (turn.serves && percent(&harness->random, 20))
         demand_rounds(harness, workspace, &turn, answer);
     copy_buffer(&given->of[role_memory], &ticked->of[role_memory]);
     copy_buffer(&given->of[role_state], &ticked->of[role_state]);

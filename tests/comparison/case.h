@@ -105,18 +105,6 @@ void demand_machine_start(struct harness *harness, const struct workspace *works
 /* The tick of "board" that stands in "given", with something damaged; "given" stays as it is. */
 void compare_damaged_tick(struct harness *harness, struct workspace *workspace);
 
-/* ---- restarts.c ---- */
-
-/* Whether "given" has the memory of a sheet of "board" away from its start, in any cell or in a kept one. */
-bool is_away(const struct workspace *workspace, unsigned sheet, bool kept_alone);
-
-/* Restarts a sheet of "board" that stands in "tried" by itself: its start, and the kept cells as they are in "given". */
-void restart_alone(struct harness *harness, struct workspace *workspace, unsigned sheet);
-
-/* The tick of "given" that left "ticked" with this answer, beside what it would be if a restart took the kept cells too. Demands that these
- * are the same but where they may differ. */
-void compare_rules(struct harness *harness, struct workspace *workspace, uint32_t answer, bool may_differ);
-
 /* ---- joined_sheets.c ---- */
 
 /* The joined sheet that "joining" has, beside the two sheets of "pair": its start, and instants both ways. */

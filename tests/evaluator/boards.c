@@ -1,7 +1,6 @@
-/* The tick of a board of sheets, document 02, K9 and K11: the board is read, memory and rows are checked over all its sheets, and the first
- * due sheet of the ring has its instant on copies, which are handed over where it is accepted. A restart leaves kept cells as they are, by
- * K11; what it would do by K9 alone can be asked too. Rests on reading.c for the sheets and on instants.c for the checks of a sheet's
- * parts, its start and its instant.
+/* The tick of a board of sheets, document 02, K9: the board is read, memory and rows are checked over all its sheets, and the first due sheet
+ * of the ring has its instant on copies, which are handed over where it is accepted. Rests on reading.c for the sheets and on instants.c for
+ * the checks of a sheet's parts, its start and its instant.
  */
 #include "common/calls.h"
 #include "evaluator/internal.h"
@@ -146,26 +145,8 @@ static unsigned first_due(const struct board *board, unsigned number, const bool
 
 /* ---- The tick ---- */
 
-/* The cells of the sheet served that get their start before its instant: none, all that no kept wire owns, or every one. */
-enum restart { restart_none, restart_but_kept, restart_every_cell };
-
-/* The start of the whole memory; then each kept cell gets back what it held, unless the restart takes it too. */
-static void start_again(const struct placed_sheet *sheet, enum restart restart, uint8_t *memory)
-{
-    const struct layout *const layout = &sheet->layout;
-    const size_t memory_length = (size_t)bytes_of_cell * layout->cells;
-    uint8_t held[bytes_of_cell * most_cells];
-    memcpy(held, memory, memory_length);
-    (void)evaluator_start(sheet->bytes, sheet->length, memory, memory_length);
-    for (unsigned wire = 0; wire < layout->wires; wire++) {
-        if (restart == restart_every_cell || !is_kept(layout->wire_types[wire]))
-            continue;
-        const size_t place = (size_t)bytes_of_cell * kept_cell(layout, wire);
-        memcpy(memory + place, held + place, bytes_of_cell);
-    }
-}
-
-static uint32_t serve(const struct placed_sheet *sheet, enum restart restart, uint8_t *memory, const uint8_t *input, uint8_t *output)
+/* A restart gives every cell its start. */
+static uint32_t serve(const struct placed_sheet *sheet, bool restart, uint8_t *memory, const uint8_t *input, uint8_t *output)
 {
     const size_t memory_length = (size_t)bytes_of_cell * sheet->layout.cells;
     const size_t input_length = (size_t)bytes_of_number * sheet->layout.inputs;
@@ -175,8 +156,8 @@ static uint32_t serve(const struct placed_sheet *sheet, enum restart restart, ui
     uint8_t own_memory[bytes_of_cell * most_cells];
     uint8_t own_output[bytes_of_number * most_outputs];
     memcpy(own_memory, memory_part, memory_length);
-    if (restart != restart_none)
-        start_again(sheet, restart, own_memory);
+    if (restart)
+        (void)evaluator_start(sheet->bytes, sheet->length, own_memory, memory_length);
     const uint32_t answer = evaluator_rounds(sheet->bytes, sheet->length, own_memory, memory_length,
                                              input + bytes_of_number * sheet->first_input, input_length, own_output, output_length);
     if (answer < first_refusal) {
@@ -186,9 +167,8 @@ static uint32_t serve(const struct placed_sheet *sheet, enum restart restart, ui
     return answer;
 }
 
-/* The rule says what a restart mark does. */
-static uint32_t tick(enum restart rule, const uint8_t *bytes, size_t board_length, uint8_t *memory, size_t memory_length,
-                     const uint8_t *input, size_t input_length, uint8_t *output, size_t output_length, uint8_t *state, size_t state_length)
+uint32_t evaluator_tick(const uint8_t *bytes, size_t board_length, uint8_t *memory, size_t memory_length, const uint8_t *input,
+                        size_t input_length, uint8_t *output, size_t output_length, uint8_t *state, size_t state_length)
 {
     struct board board;
     bool due[most_sheets] = {false};
@@ -216,21 +196,5 @@ static uint32_t tick(enum restart rule, const uint8_t *bytes, size_t board_lengt
         state[state_number] = state[state_sheet] = (uint8_t)sheet;
     }
     state[state_stored] = marks_as_byte(due);
-    if (sheet == board.count)
-        return 0;
-    return serve(&board.sheets[sheet], restart[sheet] ? rule : restart_none, memory, input, output);
-}
-
-uint32_t evaluator_tick(const uint8_t *board, size_t board_length, uint8_t *memory, size_t memory_length, const uint8_t *input,
-                        size_t input_length, uint8_t *output, size_t output_length, uint8_t *state, size_t state_length)
-{
-    return tick(restart_but_kept, board, board_length, memory, memory_length, input, input_length, output, output_length, state,
-                state_length);
-}
-
-uint32_t evaluator_tick_every_cell(const uint8_t *board, size_t board_length, uint8_t *memory, size_t memory_length, const uint8_t *input,
-                                   size_t input_length, uint8_t *output, size_t output_length, uint8_t *state, size_t state_length)
-{
-    return tick(restart_every_cell, board, board_length, memory, memory_length, input, input_length, output, output_length, state,
-                state_length);
+    return sheet < board.count ? serve(&board.sheets[sheet], restart[sheet], memory, input, output) : 0;
 }

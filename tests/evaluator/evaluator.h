@@ -39,10 +39,6 @@ uint32_t evaluator_schedule(const uint8_t *sheet, size_t sheet_length, uint8_t *
 uint32_t evaluator_tick(const uint8_t *board, size_t board_length, uint8_t *memory, size_t memory_length, const uint8_t *input,
                         size_t input_length, uint8_t *output, size_t output_length, uint8_t *state, size_t state_length);
 
-/* What the tick would be by K9 alone: a restart gives every cell its start, the kept ones too. */
-uint32_t evaluator_tick_every_cell(const uint8_t *board, size_t board_length, uint8_t *memory, size_t memory_length, const uint8_t *input,
-                                   size_t input_length, uint8_t *output, size_t output_length, uint8_t *state, size_t state_length);
-
 /* Refusals 1 to 11 of the first sheet, those of the second plus 2147483648, 23 and 16. Success answers 0 and fills the joined sheet. */
 uint32_t evaluator_join(const uint8_t *first, size_t first_length, const uint8_t *second, size_t second_length, uint8_t *joined,
                         size_t joined_length);

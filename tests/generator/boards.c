@@ -8,17 +8,15 @@
 
 /* ---- Boards that pass ---- */
 
-/* A sheet of a board is ticked often, so that more of them than by themselves have loops at some ticks and none at others, some of these by
- * what a wire has kept: then a restart that took it would show in the answer. */
+/* A sheet of a board is ticked often, so that more of them than by themselves have loops at some ticks and none at others. */
 static bool generate_sheet_of_board(struct random *random, struct board *board, unsigned sheet)
 {
     struct generator *const generator = &board->sheets[sheet];
     struct plan *const plan = &generator->plan;
     prepare_generator(generator, random, &board->bytes[sheet]);
-    if (percent(random, 40)) {
-        plan->reading = percent(random, 50) ? reading_by_input : reading_by_kept;
+    if (percent(random, 25)) {
+        plan->reading = reading_by_input;
         plan->inputs += plan->inputs == 0;
-        plan->kept_share += plan->reading == reading_by_kept && plan->kept_share == 0;
     }
     return generate_sheet(generator);
 }

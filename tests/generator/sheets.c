@@ -9,15 +9,12 @@ static void generate_expression(struct generator *generator, unsigned asked, uns
 
 static bool may_read(struct generator *generator, unsigned wire, bool delayed)
 {
-    const enum reading reading = generator->plan.reading;
-    if (delayed || reading == reading_wild)
+    if (delayed || generator->plan.reading == reading_wild)
         return true;
-    if ((reading == reading_mixed || reading == reading_by_kept) && percent(generator->random, generator->plan.wild_share))
-        return true;
-    if (generator->falling && (reading == reading_by_input || reading == reading_by_kept))
+    if (generator->plan.reading == reading_mixed && percent(generator->random, generator->plan.wild_share))
         return true;
     if (generator->falling)
-        return generator->rank[wire] > generator->rank[generator->wire];
+        return generator->plan.reading == reading_by_input || generator->rank[wire] > generator->rank[generator->wire];
     return generator->rank[wire] < generator->rank[generator->wire];
 }
 
@@ -227,35 +224,15 @@ static void generate_expression(struct generator *generator, unsigned asked, uns
 /* Whether each wire chooses by input 0 how it reads the others. */
 static bool chooses_by_input(const struct plan *plan)
 {
-    return plan->reading == reading_two_way || plan->reading == reading_by_input || plan->reading == reading_by_kept;
+    return plan->reading == reading_two_way || plan->reading == reading_by_input;
 }
 
-/* Whether the last of this wire turns that choice round. */
-static bool turns_choice(const struct generator *generator, unsigned wire)
-{
-    return generator->plan.reading == reading_by_kept && generator->rank[wire] == 0;
-}
-
-/* Input 0, or where a kept wire turns it round: if its last then not input 0 else input 0. */
-static void generate_choice(struct generator *generator)
-{
-    const unsigned wire = generator->wire_of_rank[0];
-    const uint8_t turned[] = {12, 18, (uint8_t)wire, 4, 3, 0};
-    if (turns_choice(generator, wire)) {
-        for (unsigned index = 0; index < sizeof turned; index++)
-            append(generator->sheet, turned[index]);
-        generator->above = 1u << above_condition;
-        note_last(generator, wire);
-    }
-    append(generator->sheet, 3);
-    append(generator->sheet, 0);
-}
-
-/* Present the choice do what reads by rising rank else what reads by falling. */
+/* Present input 0 do what reads by rising rank else what reads by falling. */
 static void generate_two_arms(struct generator *generator, unsigned asked)
 {
     append(generator->sheet, 13);
-    generate_choice(generator);
+    append(generator->sheet, 3);
+    append(generator->sheet, 0);
     generator->above = 1u << above_arm;
     generate_expression(generator, asked, 2, false, generator->plan.spine);
     generator->falling = true;
@@ -263,15 +240,14 @@ static void generate_two_arms(struct generator *generator, unsigned asked)
     generator->above = 0;
 }
 
-/* A machine that leaves state 0 where the choice holds and state 1 where it does not: body 1 runs where the first of two arms would,
- * whatever the state was. */
+/* A machine that leaves state 0 where input 0 holds and state 1 where it does not: body 1 runs where the first of two arms would, whatever
+ * the state was. */
 static void generate_two_bodies(struct generator *generator, unsigned asked)
 {
-    append(generator->sheet, 19);
+    static const uint8_t machine_and_conditions[] = {19, 3, 0, 4, 3, 0};
+    for (unsigned index = 0; index < sizeof machine_and_conditions; index++)
+        append(generator->sheet, machine_and_conditions[index]);
     note_machine(generator);
-    generate_choice(generator);
-    append(generator->sheet, 4);
-    generate_choice(generator);
     generator->above = 1u << above_body;
     generator->falling = true;
     generate_expression(generator, asked, 2, false, generator->plan.spine);
@@ -312,11 +288,9 @@ static void generate_header(struct generator *generator)
     }
     append(sheet, generator->plan.wires);
     for (unsigned wire = 0; wire < generator->plan.wires; wire++) {
-        const bool turns = turns_choice(generator, wire);
         /* A chain wants wires of one type, or it would break off. */
-        const unsigned type = generator->plan.chain ? 1 : below(random, 2);
-        generator->wire_types[wire] = turns ? 0 : (uint8_t)type;
-        generator->kept[wire] = turns || (generator->plan.kept_share != 0 && percent(random, generator->plan.kept_share));
+        generator->wire_types[wire] = generator->plan.chain ? 1 : (uint8_t)below(random, 2);
+        generator->kept[wire] = generator->plan.kept_share != 0 && percent(random, generator->plan.kept_share);
         generator->kept_to_come += generator->kept[wire];
         append(sheet, generator->wire_types[wire] + (generator->kept[wire] ? 2 : 0));
     }

@@ -23,8 +23,7 @@ enum reading {
     reading_mixed,    /* mostly so */
     reading_wild,     /* any wire */
     reading_two_way,  /* one arm or body by rising rank, the other by falling: cyclic, yet accepted */
-    reading_by_input, /* one by rising rank, the other any wire: where input 0 does not hold, there may be loops */
-    reading_by_kept   /* likewise, but the last of the wire of lowest rank, kept, turns the choice round, and some readings stray in both */
+    reading_by_input  /* one by rising rank, the other any wire: where input 0 does not hold, there may be loops */
 };
 
 /* What a kind 18 or a machine may stand under; an arm is that of an if or a present, a body that of a machine, and a condition any of theirs. */
@@ -32,14 +31,14 @@ enum above { above_pre, above_arm, above_condition, above_reset, above_left_of_f
 
 /* How a sheet is to be; the shares are in percent. Levels, cells and bytes may be above their limits, and then so is the sheet. */
 struct plan {
-    unsigned inputs; /* at least 1 for reading_two_way, reading_by_input and reading_by_kept */
+    unsigned inputs; /* at least 1 for reading_two_way and reading_by_input */
     unsigned wires;
     unsigned outputs;
     unsigned deepest;
     unsigned cells_wanted;
     unsigned cell_share;    /* of the expressions with operands: pres and fbys, while there are fewer cells than wanted */
     unsigned machine_share; /* of the others, likewise */
-    unsigned kept_share;    /* of the wires; with 0 there are no kept wires and no kinds 18; at least 1 for reading_by_kept */
+    unsigned kept_share;    /* of the wires; with 0 there are no kept wires and no kinds 18 */
     unsigned leaf_share;    /* of the expressions above the deepest level */
     unsigned last_share;    /* of the leaves: kinds 18 */
     unsigned stray_share;   /* of these: they name any wire, there or not, which mostly breaks a rule */

@@ -1,7 +1,7 @@
--- Worked cases of a board of two small sheets: ticks one after the other, and refusals at each place; and ticks in which the two rules of restart differ.
--- One test runs each through the outcome of the call, and it holds of every row.
+-- Worked cases of a board of two small sheets: ticks one after the other, and refusals at each place. One test runs each through the outcome of the
+-- call, and it holds of every row.
 use Rattle.std.specs.Prelude.{ℕ, ◌+◌, ◌*◌, ◌/◌, ◌%◌, ◌≡◌, refl, Bool, true, ◌&&◌, List, [], ◌∷◌, ◌++◌, eqb, length, take, drop, set, get_or}
-use Rattle.numbers.specs.Numbers.{settled, equals}
+use Rattle.numbers.specs.Numbers.{settled}
 use Rattle.wires.specs.Sets.{member}
 use Rattle.sheet.specs.Expressions.{cell_forms, cell_count}
 use Rattle.sheet.specs.Kinds.{meaning_of, operands_of}
@@ -10,7 +10,7 @@ use Rattle.sheet.specs.Readings.{read_each, names_of, body_from, own_of, read_ex
 use Rattle.sheet.specs.Headers.{field_of, bytes_of, section_of}
 use Rattle.sheet.specs.Lists.{among}
 use Rattle.sheet.specs.Sheets.{forms_of, kept_count, read_wires, outputs_from, wires_from, read_sheet, sheet_of}
-use Rattle.sheet.specs.Memory.{memory_bytes, invalid_at, cells_from, memory_of}
+use Rattle.sheet.specs.Memory.{memory_bytes, invalid_at, cells_from, memory_of, start_memory, start_outcome, start_call}
 use Rattle.sheet.specs.Rows.{row_bytes, wrong_at, data_from, inputs_of}
 use Rattle.closure.specs.Closures.{through, lowest_loop}
 use Rattle.kernel.specs.Cases.{same_bytes, all, rubbish}
@@ -23,7 +23,7 @@ use Rattle.kernel.specs.Calls.{given_of, any_unknown, place_of_loop, accepted_of
 use Rattle.board.specs.Boards.{length_place, frame_of, sheets_from, board_of}
 use Rattle.board.specs.Parts.{joined, cut, put, passed_of}
 use Rattle.board.specs.Marks.{marks_of, first_due}
-use Rattle.board.specs.Serving.{Restart, every_cell, except_kept, restarted_cells, served_call}
+use Rattle.board.specs.Serving.{Restart, every_cell, served_call}
 use Rattle.board.specs.Ticks.{Turn, TickCall, serve, tick_call, packed_tick}
 use Rattle.board.specs.declared.Standing.{Standing}
 
@@ -52,31 +52,26 @@ word n = n ∷ 0 ∷ 0 ∷ 0 ∷ []
 abbrev packed : (number place : ℕ) → ℕ
 packed number place = number * 65536 + place
 
--- one tick of a board with one input: due marks, restart marks, the input; then the answer as one number, the outputs' lowest bytes, stored marks
--- and number
+-- one tick: due marks, restart marks, the looper's input; then the answer as one number, both outputs' lowest bytes, stored marks and number
 pub data Row : Type 0 where
-  row : (due restart input answer : ℕ) → (outputs : List ℕ) → (stored number : ℕ) → Row
+  row : (due restart input answer first second stored number : ℕ) → Row
 
 abbrev at : (memory output : List ℕ) → (due restart input : ℕ) → Turn
 at memory output due restart input =
     record { memory = memory; input = word input; output = output; due = due; restart = restart }
 
-unfoldable pub shows : (output lowest : List ℕ) → Bool
-shows output [] = true
-shows output (byte ∷ bytes) = eqb (get_or output 0 0) byte && shows (drop 4 output) bytes
-
 -- what a tick leaves is what the row has
-abbrev pub matches : TickCall → (answer : ℕ) → (outputs : List ℕ) → (stored number : ℕ) → Bool
-matches now answer outputs stored number =
-    eqb (packed_tick now.answer) answer && shows now.output outputs
+abbrev pub matches : TickCall → (answer first second stored number : ℕ) → Bool
+matches now answer first second stored number =
+    eqb (packed_tick now.answer) answer && eqb (get_or now.output 0 0) first && eqb (get_or now.output 4 0) second
     && eqb now.standing.stored stored && eqb now.standing.number number
 
 -- each tick is given what the one before left
-unfoldable pub plays : Restart → (board memory output : List ℕ) → Standing → List Row → Bool
-plays rule board memory output standing [] = true
-plays rule board memory output standing (row due restart input answer outputs stored number ∷ rows) =
-    let now = tick_call rule board (at memory output due restart input) standing in
-    matches now answer outputs stored number && plays rule board now.memory now.output now.standing rows
+unfoldable pub plays : Restart → (memory output : List ℕ) → Standing → List Row → Bool
+plays rule memory output standing [] = true
+plays rule memory output standing (row due restart input answer first second stored number ∷ rows) =
+    let now = tick_call rule two (at memory output due restart input) standing in
+    matches now answer first second stored number && plays rule now.memory now.output now.standing rows
 
 -- both sheets as they are at the start
 abbrev pub at_start : List ℕ
@@ -86,70 +81,28 @@ at_start = (1 ∷ word 0) ++ (0 ∷ word 0)
 unfoldable pub rows : List Row
 rows =
     -- a new board, whose number 255 counts as the last sheet's; marks 2 to 7 are dropped
-    row 255 0 0 2 (1 ∷ 170 ∷ []) 2 0
+    row 255 0 0 2 1 170 2 0
     -- the looper waited and is marked again: it is served once
-    ∷ row 2 0 0 2 (1 ∷ 5 ∷ []) 0 1
+    ∷ row 2 0 0 2 1 5 0 1
     -- none is due, whatever the restart marks: the number is kept
-    ∷ row 252 3 0 0 (1 ∷ 5 ∷ []) 0 1
+    ∷ row 252 3 0 0 1 5 0 1
     -- only the sheet served last is due
-    ∷ row 2 0 0 2 (1 ∷ 6 ∷ []) 0 1
+    ∷ row 2 0 0 2 1 6 0 1
     -- the looper's wire stays unknown: 20, nothing is written, and it counts as served
-    ∷ row 3 0 1 2 (2 ∷ 6 ∷ []) 2 0
-    ∷ row 1 0 1 (packed 20 0) (2 ∷ 6 ∷ []) 1 1
+    ∷ row 3 0 1 2 2 6 2 0
+    ∷ row 1 0 1 (packed 20 0) 2 6 1 1
     -- a restart mark for a sheet that is not served counts for nothing, and is not stored
-    ∷ row 2 2 0 2 (3 ∷ 6 ∷ []) 2 0
-    ∷ row 0 1 0 2 (3 ∷ 7 ∷ []) 0 1
-    -- restarted, the kept counter goes on; refused 20 under a restart, the looper goes on from where it was
-    ∷ row 3 1 0 2 (4 ∷ 7 ∷ []) 2 0
-    ∷ row 0 2 1 (packed 20 0) (4 ∷ 7 ∷ []) 0 1
-    ∷ row 2 0 0 2 (4 ∷ 8 ∷ []) 0 1
-    -- restarted, the looper begins again
-    ∷ row 2 2 0 2 (4 ∷ 5 ∷ []) 0 1
+    ∷ row 2 2 0 2 3 6 2 0
+    ∷ row 0 0 0 2 3 7 0 1
+    -- restarted, and refused 20 under a restart
+    ∷ row 3 1 0 2 1 7 2 0
+    ∷ row 0 2 1 (packed 20 0) 1 7 0 1
+    ∷ row 2 0 0 2 1 8 0 1
+    ∷ row 2 2 0 2 1 5 0 1
     ∷ []
 
 unfoldable pub rows_hold : Bool
-rows_hold = plays except_kept two at_start (rubbish 8) (record { stored = 0; number = 255 }) rows
-
--- The rules of K9 and of K11 on one board. A sheet with a kept flag, wire 0: its last value or the input; a counter of the instants since the start,
--- wire 1, which is not kept; and a counter of all instants, wire 2, which is.
-abbrev pub flagged : List ℕ
-flagged =
-    1 ∷ 0 ∷ 3 ∷ 2 ∷ 1 ∷ 3 ∷ 3 ∷ 0 ∷ 1 ∷ 2
-    ∷ 7 ∷ 18 ∷ 0 ∷ 3 ∷ 0
-    ∷ 8 ∷ 16 ∷ 0 ∷ 0 ∷ 0 ∷ 0 ∷ 2 ∷ 1 ∷ 1 ∷ 1 ∷ 0 ∷ 0 ∷ 0
-    ∷ 8 ∷ 18 ∷ 2 ∷ 1 ∷ 1 ∷ 0 ∷ 0 ∷ 0 ∷ []
-
--- a kept Boolean wire: itself where its last value is true, else the input
-abbrev pub locked : List ℕ
-locked = 1 ∷ 0 ∷ 1 ∷ 2 ∷ 1 ∷ 0 ∷ 13 ∷ 18 ∷ 0 ∷ 2 ∷ 0 ∷ 3 ∷ 0 ∷ []
-
--- a kept number wire, which is 7, whatever its last value was
-abbrev pub steady : List ℕ
-steady = 1 ∷ 0 ∷ 1 ∷ 3 ∷ 1 ∷ 0 ∷ 1 ∷ 7 ∷ 0 ∷ 0 ∷ 0 ∷ []
-
-abbrev plays_alone : Restart → (sheet memory output : List ℕ) → List Row → Bool
-plays_alone rule sheet memory output = plays rule (1 ∷ framed sheet) memory output (record { stored = 0; number = 255 })
-
--- the flag is set in the first tick, and the sheet is restarted in the third: then the flag and the counter of all instants are these
-abbrev flagged_rows : (flag total : ℕ) → List Row
-flagged_rows flag total =
-    row 1 0 1 2 (1 ∷ 1 ∷ 1 ∷ []) 0 0
-    ∷ row 1 0 0 2 (1 ∷ 2 ∷ 2 ∷ []) 0 0
-    ∷ row 1 1 0 2 (flag ∷ 1 ∷ total ∷ []) 0 0
-    ∷ row 1 0 0 2 (flag ∷ 2 ∷ (total + 1) ∷ []) 0 0
-    ∷ []
-
-unfoldable pub flagged_shows : Restart → (flag total : ℕ) → Bool
-flagged_shows rule flag total =
-    plays_alone rule flagged ((1 ∷ word 0) ++ (1 ∷ word 0) ++ (1 ∷ word 0)) (rubbish 12) (flagged_rows flag total)
-
--- restarted with its cell true
-unfoldable pub locked_answers : Restart → (answer output : ℕ) → Bool
-locked_answers rule answer output = plays_alone rule locked (1 ∷ word 1) (rubbish 4) (row 1 1 1 answer (output ∷ []) 0 0 ∷ [])
-
--- restarted with its cell at 7
-abbrev steady_tick : Restart → TickCall
-steady_tick rule = tick_call rule (1 ∷ framed steady) (at (1 ∷ word 7) (rubbish 4) 1 1 0) (record { stored = 0; number = 255 })
+rows_hold = plays every_cell at_start (rubbish 8) (record { stored = 0; number = 255 }) rows
 
 -- a board and its buffers, and what a tick refuses in which all sheets are marked
 pub data Refusing : Type 0 where
@@ -159,7 +112,7 @@ pub data Refusing : Type 0 where
 unfoldable pub is_refused : Refusing → Bool
 is_refused (refuses board memory input output number place) =
     let turn : Turn = record { memory = memory; input = input; output = output; due = 255; restart = 255 } in
-    let now = tick_call except_kept board turn (record { stored = 2; number = 7 }) in
+    let now = tick_call every_cell board turn (record { stored = 2; number = 7 }) in
     eqb (packed_tick now.answer) (packed number place) && same_bytes now.memory memory && same_bytes now.output output
     && eqb now.standing.stored 2 && eqb now.standing.number 7
 
@@ -202,30 +155,14 @@ refusals =
 pub record CasesHold : Type 0 where
   pub ticks : rows_hold ≡ true
   pub refused : all is_refused refusals ≡ true
-  -- by K9's rule the flag is lost and all counters begin again, by K11's the kept wires go on
-  pub begins_anew : flagged_shows every_cell 0 1 ≡ true
-  pub goes_on : flagged_shows except_kept 1 3 ≡ true
-  -- the answer may differ: by K9's rule the sheet is accepted, by K11's it is refused 20
-  pub unlocks : locked_answers every_cell 2 1 ≡ true
-  pub stays_locked : locked_answers except_kept (packed 20 0) 170 ≡ true
-  -- a kept cell may be away from its start in a restarted sheet, and nothing differs
-  pub steady_either : steady_tick except_kept ≡ steady_tick every_cell
 
 pub cases-hold : CasesHold
-unfolding settled equals member cell_forms cell_count meaning_of operands_of lowest
+unfolding settled member cell_forms cell_count meaning_of operands_of lowest
     read_each names_of body_from own_of read_expression field_of bytes_of section_of forms_of kept_count read_wires outputs_from wires_from read_sheet
-    sheet_of among memory_bytes invalid_at cells_from memory_of row_bytes wrong_at data_from inputs_of
+    sheet_of among memory_bytes invalid_at cells_from memory_of start_memory start_outcome start_call row_bytes wrong_at data_from inputs_of
     through lowest_loop same_datum same_value same_values wires_awaited waits_for lowest_waiting value resting stored
     System.after System.unchanged System.rounds System.finished
     values stored_cells lasts_from round rounds finished next_memory output_row given_of any_unknown place_of_loop accepted_of in_rounds rounds_call
-    length_place frame_of sheets_from board_of joined cut put passed_of marks_of first_due restarted_cells served_call serve tick_call
-    same_bytes all shows plays rows rows_hold flagged_shows locked_answers is_refused refusals
-cases-hold = record {
-  ticks = refl;
-  refused = refl;
-  begins_anew = refl;
-  goes_on = refl;
-  unlocks = refl;
-  stays_locked = refl;
-  steady_either = refl;
-}
+    length_place frame_of sheets_from board_of joined cut put passed_of marks_of first_due served_call serve tick_call
+    same_bytes all plays rows rows_hold is_refused refusals
+cases-hold = record { ticks = refl; refused = refl }

@@ -3,11 +3,9 @@ pub mod Marks
 pub mod Boards
 pub mod Parts
 pub mod Passing
-pub mod Restarts
 pub mod Serving
 pub mod Ticks
 pub mod Isolation
 pub mod Service
 pub mod Again
 pub mod Refusals
-pub mod Rules

@@ -1,1 +1,1 @@
-pub mod Restarted
+pub mod Anew

@@ -1,9 +1,9 @@
-// A sheet of a board is served: its instant in rounds on its own parts, behind a restart where it is restarted.
-// Rests on `in_rounds` for the instant and on `board_restart` for the restart.
+// A sheet of a board is served: its instant in rounds on its own parts, from its starting memory where it is restarted.
+// Rests on `in_rounds` for the instant and on `sheet_start` for the starting memory.
 ghost use Rattle.std.specs.Prelude.{◌≡◌, true, length};
 ghost use Rattle.kernel.specs.Calls.{Leaves};
-ghost use Rattle.board.specs.Serving.{except_kept, served_call};
-ghost use Rattle.board_restart.specs.Fitting.{Fits};
+ghost use Rattle.board.specs.Serving.{every_cell, served_call};
+ghost use Rattle.board_serving.specs.Fitting.{Fits};
 
 use kernel::InRounds;
 
@@ -16,45 +16,44 @@ pub fn serve(
     restarts: bool,
 ) -> InRounds
     requires { Fits sheet.now memory.old }
-    ensures { Leaves (served_call except_kept restarts sheet.now memory.old input.now output.old)
+    ensures { Leaves (served_call every_cell restarts sheet.now memory.old input.now output.old)
         result memory.new output.new }
 {
     if restarts {
-        return serve_restarted(sheet, memory, input, output);
+        return serve_anew(sheet, memory, input, output);
     }
     in_rounds::instant(sheet, memory, input, output)
 }
 
-// The instant of a restarted sheet, with room for what its part held, which is at most 64 cells.
-fn serve_restarted(sheet: &[u8], memory: &mut [u8], input: &[u8], output: &mut [u8]) -> InRounds
+// The instant of a restarted sheet, on a memory of its own, as long as the part.
+fn serve_anew(sheet: &[u8], memory: &mut [u8], input: &[u8], output: &mut [u8]) -> InRounds
     requires { Fits sheet.now memory.old }
-    ensures { Leaves (served_call except_kept true sheet.now memory.old input.now output.old)
+    ensures { Leaves (served_call every_cell true sheet.now memory.old input.now output.old)
         result memory.new output.new }
 {
     let size = memory.len();
-    let mut held = [0u8; 320];
-    run_restarted(sheet, &mut held[..size], memory, input, output)
+    let mut fresh = [0u8; 320];
+    run_anew(sheet, &mut fresh[..size], memory, input, output)
 }
 
-// The instant runs from the restarted part, in its place; refused, the part gets back what it held.
-fn run_restarted(
+// The instant runs on `fresh`, from the starting memory, and the part is written only where it is accepted.
+fn run_anew(
     sheet: &[u8],
-    held: &mut [u8],
+    fresh: &mut [u8],
     memory: &mut [u8],
     input: &[u8],
     output: &mut [u8],
 ) -> InRounds
-    requires { Fits sheet.now memory.old × (length held.old ≡ length memory.old) }
-    ensures { Leaves (served_call except_kept true sheet.now memory.old input.now output.old)
+    requires { Fits sheet.now memory.old × (length fresh.old ≡ length memory.old) }
+    ensures { Leaves (served_call every_cell true sheet.now memory.old input.now output.old)
         result memory.new output.new }
 {
-    bytes::copy(memory, held);
-    board_restart::restart(sheet, memory);
-    match in_rounds::instant(sheet, memory, input, output) {
-        InRounds::Refused { why, place } => {
-            bytes::copy(held, memory);
-            InRounds::Refused { why, place }
+    sheet_start::start(sheet, fresh);
+    match in_rounds::instant(sheet, fresh, input, output) {
+        InRounds::Refused { why, place } => InRounds::Refused { why, place },
+        InRounds::Accepted { rounds } => {
+            bytes::copy(fresh, memory);
+            InRounds::Accepted { rounds }
         }
-        InRounds::Accepted { rounds } => InRounds::Accepted { rounds },
     }
 }

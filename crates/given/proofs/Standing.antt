@@ -17,13 +17,13 @@ use Rattle.numbers.specs.Laws.{word_bound}
 use Rattle.sheet.specs.Data.{ValueType, boolean, number, type_of_byte, stands_for, datum_of, word_of}
 use Rattle.sheet.specs.Expressions.{CellForm, fby_cell}
 use Rattle.sheet.specs.Outcomes.{result}
-use Rattle.sheet.specs.Memory.{starts_empty, cell_bytes, mark_at, cell_word_at, read_cell, valid_cell, memory_of}
+use Rattle.sheet.specs.Memory.{starts_empty, cell_bytes, mark_at, cell_word_at, read_cell, valid_cell, cells_from, memory_of}
 use Rattle.sheet.specs.Rows.{entry_at, wrong_at, data_from, inputs_of}
 use Rattle.sheet.specs.Sheets.{Sheet, before}
 use Rattle.sheet.specs.Laws.Outcomes.{same-result, length-passed, any-passed}
 use Rattle.sheet.specs.Laws.Headers.{sheet-view, section_good, section-length}
 use Rattle.sheet.specs.Laws.Typing.{passed_check}
-use Rattle.sheet.specs.Laws.Memory.{memory_view, cell-read}
+use Rattle.sheet.specs.Laws.Memory.{memory_view}
 use Rattle.sheet.specs.declared.Cell.{Cell}
 use Rattle.sheet.specs.declared.Cell.TheVariants.{NotStarted, Started}
 use Rattle.kernel.specs.Instant.{input_at, cell_at}
@@ -133,6 +133,13 @@ module _ (memory : List ℕ) (small : Bytes memory) where
       (λ j l. let e : suc k + j ≡ k + suc j = omega arith in rw e (valid (suc j) (omega arith)))
       (λ j l. let e : suc k + j ≡ k + suc j = omega arith in rw e (read (suc j) (omega arith))))
 
+  read_at : (forms : List CellForm) (k j : ℕ) → j < length forms
+      → cell_at (cells_from memory k forms) j ≡ read_cell (get_or forms j (fby_cell boolean)).type memory (k + j)
+  unfolding cells_from
+  read_at [] k j l = absurd (omega arith)
+  read_at (f ∷ fs) k zero l = let e : k + 0 ≡ k = omega arith in rw e
+  read_at (f ∷ fs) k (suc j) l = let e : k + suc j ≡ suc k + j = omega arith in rw e (read_at fs (suc k) j (omega arith))
+
   pub memory_stands : (forms : List CellForm) {cells : List Cell} → memory_of forms memory ≡ result cells
       → CellsStand memory cells 0 forms
   memory_stands forms {cells} e =
@@ -141,7 +148,7 @@ module _ (memory : List ℕ) (small : Bytes memory) where
       let z : (j : ℕ) → 0 + j ≡ j = λ j. omega arith in
       cells-stand forms cells 0 (omega (arith, v.sized))
       (λ j l. rw (z j) (v.valid j l))
-      (λ j l. rw (z j, v.is) (cell-read memory forms 0 j l ∙ ap (read_cell (get_or forms j (fby_cell boolean)).type memory) (z j)))
+      (λ j l. rw (z j, v.is) (read_at forms 0 j l ∙ ap (read_cell (get_or forms j (fby_cell boolean)).type memory) (z j)))
 
 -- the data of a row, by entry
 row_at : (row : List ℕ) (types : List ℕ) (i j : ℕ) → j < length types

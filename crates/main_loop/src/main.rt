@@ -9,7 +9,7 @@ use text::put_bytes;
 
 // A row for each tick: due marks and restart marks, 1 for the tariff, 2 for the relay and 4 for the display, and then all inputs
 // in board order: pulse, night; contact, opened, service; button.
-const TICKS: [[u8; 8]; 15] = [
+const TICKS: [[u8; 8]; 14] = [
     [7, 0, 1, 0, 1, 0, 0, 1], // all three are due: the tariff is served,
     [0, 0, 0, 0, 1, 0, 0, 1], // then the relay,
     [0, 0, 0, 0, 1, 0, 0, 1], // then the display
@@ -19,11 +19,10 @@ const TICKS: [[u8; 8]; 15] = [
     [0, 0, 1, 1, 1, 0, 0, 0], // the tariff, marked in the tick before, is served
     [2, 0, 0, 1, 1, 1, 0, 0], // the cover is opened: the relay opens
     [252, 0, 0, 1, 1, 0, 0, 1], // the display is due, and marks above the count are dropped
-    [5, 1, 1, 1, 1, 0, 0, 1], // the tariff is restarted: it has no kept wire, so it begins again
+    [5, 1, 1, 1, 1, 0, 0, 1], // the tariff is served from its starting memory
     [0, 0, 0, 1, 1, 0, 0, 1], // the display goes on from page 2 to page 0
     [2, 1, 0, 0, 1, 0, 1, 0], // a restart mark of the tariff counts for nothing where the relay is served; the tamper flag stays
     [1, 0, 1, 0, 1, 0, 0, 0], // the tariff goes on
-    [2, 2, 0, 0, 1, 0, 0, 0], // the relay is restarted: it opens until its contact is steady again, and the tamper flag stays, as it is kept
     [248, 0, 0, 0, 1, 0, 0, 0], // no sheet has these marks
 ];
 
@@ -38,7 +37,7 @@ fn main() {
         stored: 0,
         number: 255,
     };
-    for row in 0..15 {
+    for row in 0..14 {
         standing = make_tick(row, &board, &mut memory, &mut output, standing);
     }
 }
@@ -110,7 +109,7 @@ fn make_tick(
     output: &mut [u8; 32],
     standing: Standing,
 ) -> Standing
-    requires { row < 15 }
+    requires { row < 14 }
 {
     let given = TICKS[row];
     let input = input_row(&given);

@@ -1,8 +1,8 @@
 -- What holds of the numbers and of their words: the test of equality passes on the same numbers only, and a word that was stored is
 -- read back.
 pub mod Nearest
-use Rattle.std.specs.Prelude.{ℕ, zero, suc, ◌+◌, ◌/◌, ◌%◌, ◌≤◌, ◌<◌, ◌≡◌, refl, true, List, [], ◌∷◌, ◌++◌, ℤ, pos, negsuc, length, get_or, set, take, drop}
-use Rattle.std.proofs.Common.{ap, ◌∙◌, append-nil, arith, add-zero, add-suc, suc-add, length-set, length-drop, take-append-drop, drop_of_length-le, get_or-set_same, get_or-set_other, drop-set-lt, length-take-le, take-add, eqb-true, eq-eqb}
+use Rattle.std.specs.Prelude.{ℕ, zero, suc, ◌+◌, ◌/◌, ◌%◌, ◌≤◌, ◌<◌, ◌≡◌, refl, true, List, [], ◌∷◌, ◌++◌, ℤ, pos, negsuc, length, get_or, set, drop}
+use Rattle.std.proofs.Common.{ap, ◌∙◌, append-nil, arith, add-zero, add-suc, suc-add, length-set, drop_of_length-le, get_or-set_same, get_or-set_other, eqb-true, eq-eqb}
 use Rattle.std.proofs.lemmas.List.Edits.{sets, sets-eq}
 use Rattle.numbers.specs.Numbers.{equals}
 use Rattle.numbers.specs.Words.{word_at, word_bytes}
@@ -58,17 +58,6 @@ pub sets-all : (vs l : List ℕ) → length vs ≡ length l → sets l 0 vs ≡ 
 sets-all vs l e =
     let none : drop (0 + length vs) l ≡ [] = drop_of_length-le l {i = 0 + length vs} (omega arith) in
     sets-eq vs l 0 (omega arith) ∙ rw none (append-nil vs)
-
--- what stood there already is put there again
-pub sets_same : (l : List ℕ) (i n : ℕ) → i + n ≤ length l → sets l i (take n (drop i l)) ≡ l
-sets_same l i n h =
-    let sized : length (take n (drop i l)) ≡ n = length-take-le n (drop i l) (omega (arith, length-drop i l)) in
-    sets-eq (take n (drop i l)) l i (omega (arith, sized)) ∙ rw (sized, ← take-add i n l) (take-append-drop (i + n) l)
-
--- what lies behind a splice
-pub drop_past : (vs l : List ℕ) (i n : ℕ) → i + length vs ≤ n → drop n (sets l i vs) ≡ drop n l
-drop_past [] l i n h = refl
-drop_past (v ∷ vs) l i n h = drop_past vs (set l i v) (suc i) n (omega arith) ∙ drop-set-lt n l i v (omega arith)
 
 -- a word that was stored is read back
 pub word_back : (l : List ℕ) (i x : ℕ) → i + 4 ≤ length l → word_at (sets l i (word_bytes x)) i ≡ x

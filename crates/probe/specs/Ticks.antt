@@ -1,7 +1,7 @@
 -- A tick with its marks and numbers in 8 bytes of state: due marks, restart marks, stored marks and the number of the sheet served last; behind them
 -- the sheet that a tick serves.
 use Rattle.std.specs.Prelude.{ℕ, ◌≡◌, ◌&&◌, cond, List, eqb, ltb, length, get_or, set}
-use Rattle.board.specs.Serving.{except_kept}
+use Rattle.board.specs.Serving.{every_cell}
 use Rattle.board.specs.Ticks.{TickCall, tick_call, packed_tick}
 use Rattle.board.specs.declared.Standing.{Standing}
 use Rattle.board.specs.declared.Ticked.{Ticked}
@@ -28,7 +28,7 @@ state_after state answer standing = served_in answer (set (set state 2 standing.
 -- the tick that the state asks for
 abbrev pub tick_in : (board memory input output state : List ℕ) → TickCall
 tick_in board memory input output state =
-    tick_call except_kept board (turn_of memory input output (get_or state 0 0) (get_or state 1 0))
+    tick_call every_cell board (turn_of memory input output (get_or state 0 0) (get_or state 1 0))
     (record { stored = get_or state 2 0; number = get_or state 3 0 })
 
 -- a state of another length, or a board whose places could have no room in a packed number, does nothing

@@ -64,25 +64,24 @@ is_kept_wire (pre d a) = false
 is_kept_wire (fby t a b) = false
 is_kept_wire (kept t a) = true
 
--- what is fixed of a cell: the type of what it holds, the cell as it is at the start, and whether it is a kept wire's own
+-- what is fixed of a cell: the type of what it holds, and the cell as it is at the start
 pub record CellForm : Type 0 where
   pub type : ValueType
   pub start : Cell
-  pub is_kept : Bool
 
 abbrev pub pre_cell : Datum → CellForm
-pre_cell d = record { type = type_of d; start = Started d; is_kept = false }
+pre_cell d = record { type = type_of d; start = Started d }
 
 abbrev pub fby_cell : ValueType → CellForm
-fby_cell t = record { type = t; start = NotStarted; is_kept = false }
+fby_cell t = record { type = t; start = NotStarted }
 
 -- false or 0
 abbrev pub kept_cell : ValueType → CellForm
-kept_cell t = record { type = t; start = Started (datum_of t 0); is_kept = true }
+kept_cell t = record { type = t; start = Started (datum_of t 0) }
 
 -- false, which is state 0
 abbrev pub state_cell : CellForm
-state_cell = record { type = boolean; start = Started (Boolean false); is_kept = false }
+state_cell = record { type = boolean; start = Started (Boolean false) }
 
 -- a machine owns a cell, which has its state
 abbrev pub switch_forms : Switch → List CellForm

@@ -7,7 +7,6 @@ pub mod Reads
 pub mod Headers
 pub mod Typing
 pub mod Checked
-pub mod KeptCells
 pub mod Memory
 pub mod Refusals
 pub mod Examples

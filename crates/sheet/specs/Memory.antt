@@ -51,8 +51,7 @@ valid_cell form mark word =
     cond (eqb mark 0) (starts_empty form.start && eqb word 0) (eqb mark 1 && stands_for form.type word)
 
 module _ (forms : List CellForm) where
-  -- the form of cell k
-  abbrev pub form_at : ℕ → CellForm
+  abbrev form_at : ℕ → CellForm
   form_at k = get_or forms k (fby_cell boolean)
 
   unfoldable pub invalid_at : List ℕ → ℕ → Bool

@@ -113,18 +113,13 @@ own-entered inputs wires s level t at c {d} {n} {k} {before} {after} l few g e =
     whole : (entry : ℕ) → entry / 4 ≡ at → Whole s (entry / 4)
     whole entry q = rw q (record { kind = g.kind; ends = g.ends })
 
-    noted : (of : CellForm) (form : ℕ) → form < 4 → form_byte of ≡ form → of.is_kept ≡ false
+    noted : (of : CellForm) (form : ℕ) → form < 4 → form_byte of ≡ form
         → of.start ≡ own_cell (get_or s at 0) (body_at s at) → CellNoted s of (4 * at + form)
-    noted of form small is unkept starts =
+    noted of form small is starts =
         let place : (4 * at + form) / 4 ≡ at = omega arith in
         let rest : (4 * at + form) % 4 ≡ form = omega arith in
         let owned : eqb at no_owner ≡ false = ne_eqb at no_owner (λ e. omega (arith, g.starts)) in
-        record {
-          owner = λ other. whole (4 * at + form) place;
-          of_wire = rw (place, owned) (sym unkept);
-          starts = rw (place, owned) (sym starts);
-          form = rest ∙ sym is;
-        }
+        record { owner = λ other. whole (4 * at + form) place; starts = rw (place, owned) (sym starts); form = rest ∙ sym is }
 
     go : (o : Owned) → owned_of (get_or s at 0) ≡ o → Entered s (own_forms (get_or s at 0) (type_of_byte t) (body_at s at)) d before after
     go no_cell is = rw is record { entries = []; noted = done; placed = rw is at e }
@@ -133,19 +128,19 @@ own-entered inputs wires s level t at c {d} {n} {k} {before} {after} l few g e =
         rw is record {
           entries = (4 * at + t) ∷ [];
           noted = noted (pre_cell (datum_of (type_of_byte t) (body_at s at))) t (omega arith) (rw (datum-type, type-back t l, add-zero))
-              refl (rw is (cc)) then done;
+              (rw is (cc)) then done;
           placed = rw is at e;
         }
     go fby-cell is =
         let sum : 4 * at + t + 2 ≡ 4 * at + (t + 2) = omega arith in
         rw is record {
           entries = (4 * at + (t + 2)) ∷ [];
-          noted = noted (fby_cell (type_of_byte t)) (t + 2) (omega arith) (rw (type-back t l)) refl (rw is refl) then done;
+          noted = noted (fby_cell (type_of_byte t)) (t + 2) (omega arith) (rw (type-back t l)) (rw is refl) then done;
           placed = rw sum at (rw is at e);
         }
     go state-cell is = rw is record {
       entries = (4 * at + 0) ∷ [];
-      noted = noted state_cell 0 (omega arith) refl refl (rw is refl) then done;
+      noted = noted state_cell 0 (omega arith) refl (rw is refl) then done;
       placed = rw (← (add-zero (4 * at))) at (rw is at e);
     }
 
@@ -157,7 +152,6 @@ kept-entered byte {s} is e =
     let form : (16384 + plain_byte byte) % 4 ≡ plain_byte byte = omega arith in
     let noted : CellNoted s (kept_cell (wire_type byte)) (16384 + plain_byte byte) = record {
       owner = λ other. absurd (other owner);
-      of_wire = rw owner;
       starts = rw (owner, form);
       form = form ∙ rw (type-back (plain_byte byte) (omega arith), add-zero);
     } in

@@ -59,7 +59,6 @@ start_in s entry =
 -- the entry leads to the owner of a cell of the form, if it has one
 pub record CellNoted (s : List ℕ) (of : CellForm) (entry : ℕ) : Type 0 where
   pub owner : (owner_in entry ≡ no_owner → ⊥) → Whole s (owner_in entry)
-  pub of_wire : eqb (owner_in entry) no_owner ≡ of.is_kept
   pub starts : start_in s entry ≡ of.start
   pub form : form_in entry ≡ form_byte of
 

@@ -9,7 +9,6 @@ ghost use Rattle.sheet.specs.declared.Started.TheVariants.{Refused, Done};
 ghost use Rattle.sheet_start.specs.Owners.{Noted, Starts};
 
 use sheet::{Cell, Checked, Refusal, Started, data, memory};
-use sheet_expressions::map;
 
 // The start: the memory gets its starting cells, or it is left as it is where 1 to 12 refuse.
 pub fn start(sheet: &[u8], memory: &mut [u8]) -> Started
@@ -63,8 +62,8 @@ fn start_cell(sheet: &[u8], entry: u16) -> Cell
     requires { (owner_in entry ≡ no_owner → ⊥) → Whole sheet.now (owner_in entry) }
     ensures { result ≡ start_in sheet.now entry }
 {
-    let owner = map::owner(entry);
-    if owner == map::NO_OWNER {
+    let owner = (entry / 4) as usize;
+    if owner == 4096 {
         return Cell::Started(data::datum_of((entry % 4) as u8, 0));
     }
     sheet_cells::own_cell(sheet, owner)

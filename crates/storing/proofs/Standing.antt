@@ -7,7 +7,7 @@ use mathlib.Core.List.{List, [], ◌∷◌, ◌++◌, append_assoc}
 use native.Mathlib.Omega.{arith}
 use lib.ListN.{length, get_or, take, drop, length-append, length-drop, length-map}
 use lib.Seq.{sets, length-sets, drop-cons, length-take-le}
-use Rattle.numbers.specs.Laws.{sets-past, sets-append, sets_same, drop_past}
+use Rattle.numbers.specs.Laws.{sets-past, sets-append}
 use Rattle.sheet.specs.Expressions.{Expression, constant, wire, input, last, unary, binary, conditional, switch, pre, fby, kept}
 use Rattle.sheet.specs.Expressions.{Alternatives, only, either, Switch, present, reset, machine}
 use Rattle.sheet.specs.Expressions.{CellForm, switch_forms, cell_forms, cell_count, count_in}
@@ -19,6 +19,7 @@ use Rattle.sheet.specs.declared.Cell.TheVariants.{NotStarted}
 use Rattle.kernel.specs.Values.{is_true}
 use Rattle.kernel.specs.Instant.{Environment, state_of, second_runs, makes_fresh, switch_cells, value_in, resting, stored, stored_in}
 use Rattle.expression.specs.Places.{CellStands, CellsStand, none, more}
+use Rattle.storing.proofs.Splices.{sets_same, drop_past}
 
 module _ {memory : List ℕ} (vs : List ℕ) (i : ℕ) where
   cell-past : {k : ℕ} {form : CellForm} {c : Cell} → i + length vs ≤ 5 * k → CellStands memory k form c

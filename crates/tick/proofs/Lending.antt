@@ -15,12 +15,12 @@ use Rattle.kernel.specs.Calls.{Leaves}
 use Rattle.kernel.specs.declared.InRounds.{InRounds}
 use Rattle.board.specs.Boards.{length_at, length_place, bytes_of}
 use Rattle.board.specs.Parts.{joined, sheet_at, inputs_in, outputs_in, begin, size, cut, put, part, with_part, memory_part}
-use Rattle.board.specs.Serving.{except_kept, served_call}
+use Rattle.board.specs.Serving.{every_cell, served_call}
 use Rattle.board.specs.Laws.Boards.{BoardRead, board_read, PassedBy, passed-by}
 use Rattle.board.specs.Laws.Parts.{part-within, joined-next}
 use Rattle.board.specs.Laws.Passing.{memory_part_lem}
 use Rattle.board_check.specs.declared.Begin.{Begin}
-use Rattle.board_restart.specs.Fitting.{Fits}
+use Rattle.board_serving.specs.Fitting.{Fits}
 use Rattle.tick.specs.Ticking.{Parted, ServesPart}
 
 -- one place is not behind another, and that is not behind the end of the bytes
@@ -142,7 +142,7 @@ module _ {board memory input output : List ℕ} {from to : Begin} (p : Parted bo
 
   -- the instant of what is lent is that of the sheet, and what it leaves stands in the sheet's parts
   pub served-part : (restarts : Bool) {answer : InRounds} {stored written : List ℕ}
-      → Leaves (served_call except_kept restarts (take (to.at - (from.at + 2)) (drop (from.at + 2) board))
+      → Leaves (served_call every_cell restarts (take (to.at - (from.at + 2)) (drop (from.at + 2) board))
       (take (5 * to.cells - 5 * from.cells) (drop (5 * from.cells) memory))
       (take (4 * to.inputs - 4 * from.inputs) (drop (4 * from.inputs) input))
       (take (4 * to.outputs - 4 * from.outputs) (drop (4 * from.outputs) output))) answer stored written

@@ -17,7 +17,7 @@ use Rattle.kernel.specs.declared.InRounds.{InRounds}
 use Rattle.board.specs.Boards.{frame_of, board_of}
 use Rattle.board.specs.Marks.{marked, marks_of}
 use Rattle.board.specs.Parts.{passed_of}
-use Rattle.board.specs.Serving.{except_kept}
+use Rattle.board.specs.Serving.{every_cell}
 use Rattle.board.specs.Ticks.{Turn, TickCall, is_due, due_sheet, served_answer, serve, tick_call}
 use Rattle.board.specs.Laws.Boards.{FramePassed, frame-passed, frame_why, board_read, passed-by}
 use Rattle.board.specs.Laws.Marks.{first-most, first-is}
@@ -57,7 +57,7 @@ module _ (board memory input output : List ℕ) (due restart : ℕ) (standing : 
   turn = turn_of memory input output due restart
 
   abbrev call : TickCall
-  call = tick_call except_kept board turn standing
+  call = tick_call every_cell board turn standing
 
   pub leaves-refused : {why : Refusal} {place : ℕ} {r : Answered} → passed_of board memory input output ≡ refusal why place
       → (r.answer ≡ Refused why place) × (r.standing ≡ standing) → Leaves call r memory output
@@ -112,7 +112,7 @@ module _ (board memory input output : List ℕ) (due restart : ℕ) (standing : 
               let due-now = first-is (length sheets) (is_due turn standing) standing.number (omega (arith, same, is-sheet)) in
               let serves : Serves board turn standing sheets k =
               record { passes = passes; is_sheet = is-sheet; is_due_now = rw (← same) at due-now; first = same } in
-              let whole = tick_serves except_kept board turn standing sheets k serves in
+              let whole = tick_serves every_cell board turn standing sheets k serves in
               rw (whole, sheets_counted)
               (record {
                 answers = answers ∙ ap (served_answer k) served.answers;

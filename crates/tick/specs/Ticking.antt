@@ -6,7 +6,7 @@ use Rattle.kernel.specs.Calls.{InstantCall}
 use Rattle.kernel.specs.declared.InRounds.{InRounds}
 use Rattle.board.specs.Boards.{bytes_of}
 use Rattle.board.specs.Parts.{memory_part, input_part, output_part, with_part, outputs_in, passed_of}
-use Rattle.board.specs.Serving.{except_kept, served_call}
+use Rattle.board.specs.Serving.{every_cell, served_call}
 use Rattle.board.specs.Ticks.{Turn, TickCall}
 use Rattle.board_check.specs.Found.{Between}
 use Rattle.board_check.specs.declared.Begin.{Begin}
@@ -34,7 +34,7 @@ module _ {board memory input output : List ℕ} {from to : Begin} (p : Parted bo
   -- the instant of that sheet
   abbrev pub part_instant : InstantCall InRounds
   part_instant =
-      served_call except_kept restarts (bytes_of board p.number) (memory_part p.sheets p.number memory)
+      served_call every_cell restarts (bytes_of board p.number) (memory_part p.sheets p.number memory)
       (input_part p.sheets p.number input) (output_part p.sheets p.number output)
 
   -- the answer is that of the instant, and what it leaves stands in the sheet's parts

@@ -2,7 +2,7 @@
 // `board_check` for the checks, on `board_marks` for the marks and the ring, and on `board_serving` for the instant.
 ghost use Rattle.std.specs.Prelude.{◌≡◌, Bool, not, ◌&&◌, ℕ, ◌≤◌, ◌<◌, eqb};
 ghost use Rattle.board.specs.Marks.{marks_of};
-ghost use Rattle.board.specs.Serving.{except_kept};
+ghost use Rattle.board.specs.Serving.{every_cell};
 ghost use Rattle.board.specs.Ticks.{tick_call, served_answer, packed_tick, PackableTick};
 ghost use Rattle.board_marks.specs.Sets.{MarksJust};
 ghost use Rattle.tick.specs.Ticking.{turn_of, Leaves, Parted, ServesPart};
@@ -32,7 +32,7 @@ pub fn tick(
     restart: u8,
     standing: Standing,
 ) -> Answered
-    ensures { Leaves (tick_call except_kept board.now
+    ensures { Leaves (tick_call every_cell board.now
         (turn_of memory.old input.now output.old due restart) standing)
         result memory.new output.new }
 {

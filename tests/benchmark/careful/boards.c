@@ -123,20 +123,20 @@ static unsigned first_due(unsigned due, unsigned count, unsigned number)
     return due == 0 ? most_sheets : lowest_of(behind != 0 ? behind : due);
 }
 
-/* The instant on the parts in place, also under a restart: so kept cells need not be moved. Refused 20, the old memory comes back. */
+/* The instant on the parts in place. A restart has it on a starting memory of its own, which is handed over where the instant is accepted:
+ * refused 20, the old memory stays. */
 static uint32_t serve(struct served *served, const struct whole *whole, bool restart)
 {
-    uint8_t old[bytes_of_cell * most_cells];
-    const size_t length = (size_t)bytes_of_cell * served->program.cells;
-    uint8_t *const memory = whole->memory + bytes_of_cell * served->first_cell;
-    if (restart) {
-        memcpy(old, memory, length);
-        restart_cells(&served->program, memory);
-    }
+    uint8_t started[bytes_of_cell * most_cells];
+    const unsigned cells = served->program.cells;
+    uint8_t *const part = whole->memory + bytes_of_cell * served->first_cell;
+    uint8_t *const memory = restart ? started : part;
+    if (restart)
+        start_cells(&served->program, started, 0, cells);
     begin_instant(&served->instant, &served->program, memory);
     const uint32_t answer = make_rounds(&served->instant, memory, whole->output + bytes_of_number * served->first_output);
-    if (restart && answer >= first_refusal)
-        memcpy(memory, old, length);
+    if (restart && answer < first_refusal)
+        memcpy(part, started, (size_t)bytes_of_cell * cells);
     return answer;
 }
 

@@ -252,9 +252,6 @@ bool make_round(struct instant *instant, struct rounds *rounds);
 /* Starts the cells from the first one to before the end. */
 void start_cells(const struct program *program, uint8_t *memory, unsigned first, unsigned end);
 
-/* Starts all cells but those of kept wires, which stay as they are. */
-void restart_cells(const struct program *program, uint8_t *memory);
-
 /* Stores the cells of all wires, kept ones and those of expressions; the numbers, all finished, are the instant's. */
 void store_wires(const struct instant *instant);
 

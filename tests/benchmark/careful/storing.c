@@ -9,25 +9,12 @@ static void write_cell(uint8_t *cell, uint8_t mark, uint32_t number)
     write_number(cell + 1, number);
 }
 
-static inline void start_cell(const struct program *program, uint8_t *memory, unsigned cell)
-{
-    const struct node *const owner = program->cell_node[cell];
-    /* Behind the pres come the fby, a machine, and what owns the cells of kept wires. */
-    write_cell(memory + bytes_of_cell * cell, owner->kind != kind_fby, owner->kind <= kind_number_pre ? owner->is.number : 0);
-}
-
 void start_cells(const struct program *program, uint8_t *memory, unsigned first, unsigned end)
 {
-    for (unsigned cell = first; cell < end; cell++)
-        start_cell(program, memory, cell);
-}
-
-/* One look at its owner tells a kept cell: no expression of that kind owns one. */
-void restart_cells(const struct program *program, uint8_t *memory)
-{
-    for (unsigned cell = 0; cell < program->cells; cell++) {
-        if (program->cell_node[cell]->kind != kind_last)
-            start_cell(program, memory, cell);
+    for (unsigned cell = first; cell < end; cell++) {
+        const struct node *const owner = program->cell_node[cell];
+        /* Behind the pres come the fby, a machine, and what owns the cells of kept wires. */
+        write_cell(memory + bytes_of_cell * cell, owner->kind != kind_fby, owner->kind <= kind_number_pre ? owner->is.number : 0);
     }
 }
 

@@ -16,7 +16,7 @@ use Rattle.board.specs.declared.Standing.{Standing}
 use Rattle.board.specs.Laws.Boards.{PassedBy, passed-by, by-passed}
 use Rattle.board.specs.Laws.Parts.{ChangedOnly}
 use Rattle.board.specs.Laws.Passing.{cell-part}
-use Rattle.board.specs.Laws.Serving.{sheet-served}
+use Rattle.board.specs.Laws.Serving.{IsRestart, sheet-served}
 use Rattle.board.specs.Laws.Ticks.{Serves, tick_by, Goes, refused, idle, serving, tick_goes}
 
 -- a cell outside a change is as it was
@@ -83,10 +83,10 @@ part-again sheets k is_sheet before after cells own valid only reads = (
             cell-outside all only m (inr (omega (arith, ltb-false m first e, ltb-false (m - first) count q))) ∙ old m l
 
 -- whatever passed once passes with what the tick leaves
-pub passes-again : (rule : Restart) (board : List ℕ) (turn : Turn) (standing : Standing) (sheets : List Sheet)
+pub passes-again : (rule : Restart) → IsRestart rule → (board : List ℕ) (turn : Turn) (standing : Standing) (sheets : List Sheet)
     → found_by board turn ≡ result sheets
     → passed_of board (tick_call rule board turn standing).memory turn.input (tick_call rule board turn standing).output ≡ result sheets
-passes-again rule board turn standing sheets passes = go (tick_goes rule board turn standing)
+passes-again rule isRestart board turn standing sheets passes = go (tick_goes rule board turn standing)
   where
     now : TickCall
     now = tick_call rule board turn standing
@@ -96,8 +96,8 @@ passes-again rule board turn standing sheets passes = go (tick_goes rule board t
 
     again : (k : ℕ) → Serves board turn standing sheets k → passed_of board now.memory turn.input now.output ≡ result sheets
     again k s =
-        let by = tick_by rule board turn standing sheets k s in
-        let (own, reads) = (sheet-served rule board turn sheets passes k s.is_sheet).reads in
+        let by = tick_by rule board turn standing isRestart sheets k s in
+        let (own, reads) = (sheet-served rule isRestart board turn sheets passes k s.is_sheet).reads in
         by-passed board now.memory turn.input now.output sheets
         (record {
           read = passed.read;

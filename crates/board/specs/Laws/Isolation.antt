@@ -19,6 +19,7 @@ use Rattle.board.specs.Runs.{serves}
 use Rattle.board.specs.declared.Standing.{Standing}
 use Rattle.board.specs.Laws.Boards.{passed-by, same_sheets}
 use Rattle.board.specs.Laws.Marks.{first-is}
+use Rattle.board.specs.Laws.Serving.{IsRestart}
 use Rattle.board.specs.Laws.Ticks.{Serves, tick_serves, tick_by, others-kept}
 
 -- two turns with the same marks and the same bytes in the parts of sheet k: all other bytes of memory, input row and output row may differ
@@ -42,7 +43,7 @@ serves-number : (j k : ℕ) (instant : InRounds) → serves j (served_answer k i
 serves-number j k (RefusedInRounds why wire) = refl
 serves-number j k (AcceptedInRounds rounds) = refl
 
-module _ (rule : Restart) (board : List ℕ) (one other : Turn) (standing : Standing) (sheets found : List Sheet)
+module _ (rule : Restart) (isRestart : IsRestart rule) (board : List ℕ) (one other : Turn) (standing : Standing) (sheets found : List Sheet)
     (passes : found_by board one ≡ result sheets) (valid : found_by board other ≡ result found)
     (k : ℕ) (is_sheet : k < length sheets) (alike : AlikeFor sheets k one other) where
   -- the other turn finds the same sheets
@@ -82,16 +83,16 @@ module _ (rule : Restart) (board : List ℕ) (one other : Turn) (standing : Stan
           × (j ≡ k → (tick_call rule board other standing).answer ≡ (tick_call rule board one standing).answer)
       parts true e =
           let same : j ≡ k = sym (eqb-true k j e) in
-          let a = tick_by rule board one standing sheets k (rw same at s) in
-          let b = tick_by rule board other standing sheets k (serves-same k (rw same at s)) in (
+          let a = tick_by rule board one standing isRestart sheets k (rw same at s) in
+          let b = tick_by rule board other standing isRestart sheets k (serves-same k (rw same at s)) in (
             b.memory ∙ ap (λ (x : InstantCall InRounds). x.memory) instant_same ∙ sym a.memory,
             b.output ∙ ap (λ (x : InstantCall InRounds). x.output) instant_same ∙ sym a.output,
             λ _. b.answer ∙ ap (λ (x : InstantCall InRounds). served_answer k x.answer) instant_same ∙ sym a.answer,
           )
       parts false e =
           let apart = eqb-false k j e in
-          let (m₁, o₁) = others-kept rule board one standing sheets j s k is_sheet apart in
-          let (m₂, o₂) = others-kept rule board other standing sheets j (serves-same j s) k is_sheet apart in (
+          let (m₁, o₁) = others-kept rule board one standing isRestart sheets j s k is_sheet apart in
+          let (m₂, o₂) = others-kept rule board other standing isRestart sheets j (serves-same j s) k is_sheet apart in (
             m₂ ∙ alike.memory ∙ sym m₁,
             o₂ ∙ alike.output ∙ sym o₁,
             λ same. absurd (apart (sym same)),

@@ -29,6 +29,7 @@ use Rattle.board.specs.declared.Standing.{Standing}
 use Rattle.board.specs.declared.Ticked.{Ticked}
 use Rattle.board.specs.declared.Ticked.TheVariants.{Refused, NoneDue, Served, LeftUnknown}
 use Rattle.board.specs.Laws.Boards.{frame-passed, board_read, passed-by}
+use Rattle.board.specs.Laws.Serving.{IsRestart}
 use Rattle.board.specs.Laws.Ticks.{TickServes, TickAnswered, tick_answered}
 
 -- a refusal with 22 or 1 to 16, at a place in the board or at its end, or below 512
@@ -168,10 +169,10 @@ passed-within board memory input output =
     length-within board OutputLength (length output) (4 * length (joined outputs_in sheets)) _ (omega arith) passes)))
 
 -- from the answer of the call
-pub tick_refusals : (rule : Restart) (board : List ℕ) (turn : Turn) (standing : Standing) {why : Refusal} {place : ℕ}
+pub tick_refusals : (rule : Restart) → IsRestart rule → (board : List ℕ) (turn : Turn) (standing : Standing) {why : Refusal} {place : ℕ}
     → (tick_call rule board turn standing).answer ≡ Refused why place → RefusedAt board why place
-tick_refusals rule board turn standing {why} {place} e =
-    go (passed-within board turn.memory turn.input turn.output) ((tick_answered rule board turn standing).refused e).found
+tick_refusals rule isRestart board turn standing {why} {place} e =
+    go (passed-within board turn.memory turn.input turn.output) ((tick_answered rule board turn standing isRestart).refused e).found
   where
     go : {o : Outcome (List Sheet)} → Within board o → o ≡ refusal why place → RefusedAt board why place
     go (refuses {why = found} {place = at} r) e =
@@ -179,24 +180,24 @@ tick_refusals rule board turn standing {why} {place} e =
     go passes e = never (cc)
 
 -- so the answer of a tick of a board of at most 65,535 bytes can be packed
-pub tick_packable : (rule : Restart) (board : List ℕ) (turn : Turn) (standing : Standing) → length board < 65536
+pub tick_packable : (rule : Restart) → IsRestart rule → (board : List ℕ) (turn : Turn) (standing : Standing) → length board < 65536
     → PackableTick (tick_call rule board turn standing).answer
-tick_packable rule board turn standing short = go (tick_call rule board turn standing).answer refl
+tick_packable rule isRestart board turn standing short = go (tick_call rule board turn standing).answer refl
   where
     placed : {place : ℕ} → (place ≤ length board) ⊎ (place < 512) → place < 65536
     placed (inl l) = omega arith
     placed (inr l) = omega arith
 
-    answered : TickAnswered rule board turn standing
-    answered = tick_answered rule board turn standing
+    answered : TickAnswered rule board turn standing isRestart
+    answered = tick_answered rule board turn standing isRestart
 
-    number : {k : ℕ} → TickServes rule board turn standing k → k < 256
+    number : {k : ℕ} → TickServes rule board turn standing isRestart k → k < 256
     number {k} t =
         let passed = passed-by board turn.memory turn.input turn.output t.sheets t.serves.passes in
         omega (arith, t.serves.is_sheet, (board_read board t.sheets passed.read).passed.most)
 
     go : (answer : Ticked) → (tick_call rule board turn standing).answer ≡ answer → PackableTick answer
-    go (Refused why place) e = placed (tick_refusals rule board turn standing e).bounded
+    go (Refused why place) e = placed (tick_refusals rule isRestart board turn standing e).bounded
     go NoneDue e = tt
     go (Served k rounds) e =
         let s = answered.served e in

@@ -21,7 +21,7 @@ use Rattle.board.specs.Laws.Boards.{same_sheets}
 use Rattle.board.specs.Laws.Marks.{Behind, onward, around, behind-some, last-served, First, itself, before, first-due, some-due, first-is}
 use Rattle.board.specs.Laws.Ticks.{Serves, tick_serves, stands-behind}
 
-pub answers-served : (k : ℕ) (instant : InRounds) → serves k (served_answer k instant) ≡ true
+answers-served : (k : ℕ) (instant : InRounds) → serves k (served_answer k instant) ≡ true
 answers-served k (RefusedInRounds why wire) = eq-eqb k k refl
 answers-served k (AcceptedInRounds rounds) = eq-eqb k k refl
 

@@ -1,15 +1,15 @@
--- A served sheet: its own parts pass 12 to 16, also where it is restarted, so that its instant is accepted or refused with 20; what it leaves has the
+-- A served sheet: its own parts pass 12 to 16, also from its starting memory, so that its instant is accepted or refused with 20; what it leaves has the
 -- lengths of its parts, and its memory passes 12 and 13 again.
 use Rattle.std.specs.Prelude.{◌≡◌, refl, ◌⊎◌, ℕ, ◌*◌, ◌<◌, Bool, true, false, List}
-use Rattle.std.proofs.Common.{sym, ◌∙◌, inl, inr}
+use Rattle.std.proofs.Common.{sym, ◌∙◌, inl, inr, eq-eqb}
 use Rattle.std.proofs.Math.Path.{ap}
 use Rattle.std.proofs.Math.ListN.{length, length-map}
 use Rattle.sheet.specs.Outcomes.{Outcome, refusal, result, followed_by, holds_after}
 use Rattle.sheet.specs.Sheets.{Sheet, sheet_forms, sheet_of}
-use Rattle.sheet.specs.Memory.{memory_of}
+use Rattle.sheet.specs.Memory.{memory_of, start_memory, start_outcome, start_call}
 use Rattle.sheet.specs.Rows.{inputs_of}
 use Rattle.sheet.specs.Laws.Lists.{never}
-use Rattle.sheet.specs.Laws.Memory.{memory_view, row-length, start_memory_valid}
+use Rattle.sheet.specs.Laws.Memory.{memory_view, memory_back, row-length, start_memory_valid}
 use Rattle.sheet.specs.Laws.Outcomes.{no_result, same-result}
 use Rattle.sheet.specs.Laws.Typing.{checked_well_typed}
 use Rattle.sheet.specs.declared.Cell.{Cell}
@@ -26,19 +26,33 @@ use Rattle.kernel.specs.declared.InRounds.TheVariants.{Refused, Accepted}
 use Rattle.board.specs.Boards.{bytes_of}
 use Rattle.board.specs.Parts.{sheet_at, memory_part, input_part, output_part}
 use Rattle.board.specs.Marks.{marked}
-use Rattle.board.specs.Serving.{Restart, runs_from, stored_in, served_call}
+use Rattle.board.specs.Serving.{Restart, every_cell, runs_from, stored_in, served_call}
 use Rattle.board.specs.Ticks.{Turn, found_by, instant_of}
 use Rattle.board.specs.Laws.Boards.{board_read, PassedBy, passed-by}
 use Rattle.board.specs.Laws.Passing.{memory_part_lem, input-part, output_part_lem}
-use Rattle.board.specs.Laws.Restarts.{restarted-reads}
 
-runs-from-valid : (rule : Restart) (restarts : Bool) (s own : List ℕ) (sheet : Sheet) (cells : List Cell)
+-- What a rule of restart must do: from a valid memory it makes a valid one.
+pub record IsRestart (rule : Restart) : Type 0 where
+  pub valid : (s own : List ℕ) (sheet : Sheet) (cells : List Cell) → sheet_of s ≡ result sheet → memory_of (sheet_forms sheet) own ≡ result cells
+      → (fresh : List Cell) × (memory_of (sheet_forms sheet) (rule s own) ≡ result fresh)
+
+pub every-cell : IsRestart every_cell
+unfolding start_call start_outcome
+every-cell =
+    record {
+      valid = λ s own sheet cells read held.
+          let sized = (memory_view (sheet_forms sheet) own held).sized in (
+            start_memory (sheet_forms sheet),
+            rw (read, eq-eqb (length own) (5 * length (sheet_forms sheet)) sized)
+                (memory_back (start_memory_valid sheet (checked_well_typed s sheet read))),
+          );
+    }
+
+runs-from-valid : (rule : Restart) → IsRestart rule → (restarts : Bool) (s own : List ℕ) (sheet : Sheet) (cells : List Cell)
     → sheet_of s ≡ result sheet → memory_of (sheet_forms sheet) own ≡ result cells
     → (held : List Cell) × (memory_of (sheet_forms sheet) (runs_from rule restarts s own) ≡ result held)
-runs-from-valid rule true s own sheet cells read held =
-    let starts = start_memory_valid sheet (checked_well_typed s sheet read) in
-    rw read (_, restarted-reads rule (sheet_forms sheet) own starts held)
-runs-from-valid rule false s own sheet cells read held = (cells, held)
+runs-from-valid rule isRestart true s own sheet cells read held = isRestart.valid s own sheet cells read held
+runs-from-valid rule isRestart false s own sheet cells read held = (cells, held)
 
 -- What a refused instant leaves of the output row.
 refused-row : (s memory input output : List ℕ) {why : Refusal} {place : ℕ} → (rounds_call s memory input output).answer ≡ Refused why place
@@ -127,7 +141,7 @@ module _ {s own from input output : List ℕ} {sheet : Sheet} (ready : Ready s o
       go (Accepted rounds) e = accepted_well e
 
 -- A sheet of a board whose turn passes all checks.
-module _ (rule : Restart) (board : List ℕ) (turn : Turn) (sheets : List Sheet)
+module _ (rule : Restart) (isRestart : IsRestart rule) (board : List ℕ) (turn : Turn) (sheets : List Sheet)
     (passes : found_by board turn ≡ result sheets) (k : ℕ) (is_sheet : k < length sheets) where
   passed : PassedBy board turn.memory turn.input turn.output sheets
   passed = passed-by board turn.memory turn.input turn.output sheets passes
@@ -144,7 +158,7 @@ module _ (rule : Restart) (board : List ℕ) (turn : Turn) (sheets : List Sheet)
       record {
         read = read;
         own_cells = (_, held);
-        from_cells = runs-from-valid rule (marked turn.restart k) (bytes_of board k) (memory_part sheets k turn.memory)
+        from_cells = runs-from-valid rule isRestart (marked turn.restart k) (bytes_of board k) (memory_part sheets k turn.memory)
             (sheet_at sheets k) _ read held;
         inputs = (_, input-part sheets k is_sheet turn.input passed.inputs.1);
         outputs = output_part_lem sheets k is_sheet turn.output passed.outputs;

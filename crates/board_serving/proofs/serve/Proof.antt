@@ -1,11 +1,11 @@
 -- `serve` meets its contract: restarted or not.
 use borrow.Author.Rules.{rules}
-use Rattle.board_serving.proofs.Restarted.{as_instant}
+use Rattle.board_serving.proofs.Anew.{as_instant}
 use Rattle.board_serving.proofs.serve.Statement.{statement}
 use Rattle.board_serving.proofs.serve.Tie as tie
 
-serve-restarted-requires : tie.Need-serve-restarted-requires
-serve-restarted-requires c κs = search rules
+serve-anew-requires : tie.Need-serve-anew-requires
+serve-anew-requires c κs = search rules
 
 same_length : tie.Need-same-length
 same_length c = search rules
@@ -14,7 +14,7 @@ same-length-2 : tie.Need-same-length-2
 same-length-2 c = search rules
 
 returns : tie.Need-returns
-returns c = rw c.before.before.before.before.before.before.before.if1.true c.before.before.before.before.serve-restarted.ensures
+returns c = rw c.before.before.before.before.before.before.before.if1.true c.before.before.before.before.serve-anew.ensures
 
 instant-requires : tie.Need-instant-requires
 instant-requires c κs = search rules
@@ -32,7 +32,7 @@ pub serve_spec : {M : Type 1} → statement M
 serve_spec =
     tie.close
     (tie.spec
-    serve-restarted-requires
+    serve-anew-requires
     same_length
     same-length-2
     returns

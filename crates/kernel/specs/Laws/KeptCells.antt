@@ -1,6 +1,6 @@
 -- Document 02, K7, from the answer of the call: each accepted instant stores a kept wire's value in the wire's cell, whatever resets and
 -- arms its expression has, and kind 18 gives it in the next instant, fresh or not.
-use Rattle.std.specs.Prelude.{ℕ, suc, ◌<◌, ◌≡◌, refl, Bool, true, List, ◌∷◌, length, drop}
+use Rattle.std.specs.Prelude.{ℕ, suc, ◌+◌, ◌<◌, ◌≡◌, refl, Bool, true, List, ◌∷◌, length, get_or, drop}
 use Rattle.std.proofs.Math.Path.{sym, ap}
 use Rattle.std.proofs.Common.{◌∙◌, add-zero, arith, get_or-take, get_or-drop}
 use Rattle.std.proofs.Math.Bool.{false}
@@ -12,7 +12,7 @@ use Rattle.sheet.specs.Expressions.{is_kept_wire, cell_count}
 use Rattle.sheet.specs.Outcomes.{result}
 use Rattle.sheet.specs.Memory.{memory_of}
 use Rattle.sheet.specs.Sheets.{sheet_forms, expression_at, cells_before}
-use Rattle.sheet.specs.Laws.Checked.{wire_byte, kept-by-byte}
+use Rattle.sheet.specs.Laws.Checked.{kept-by-byte}
 use Rattle.sheet.specs.Laws.Lists.{never}
 use Rattle.sheet.specs.declared.Cell.{Cell}
 use Rattle.sheet.specs.declared.Cell.TheVariants.{NotStarted, Started}
@@ -61,7 +61,7 @@ module _ (s memory input output : List ℕ) {r : ℕ} (accepted : (rounds_call s
 
   -- so it is of a wire whose type byte, behind the inputs' and both counts, says that it is kept
   pub kept-after : (w : ℕ) → w < length (equations s memory input output accepted)
-      → is_kept (wire_byte s w) ≡ true → KeptAfter w
+      → is_kept (get_or s (2 + get_or s 0 0 + w) 0) ≡ true → KeptAfter w
   unfolding stored value cell_count
   kept-after w l byte =
       let after = solved s memory input output accepted in
@@ -90,5 +90,5 @@ module _ (s memory input output : List ℕ) {r : ℕ} (accepted : (rounds_call s
 module _ (s memory input output list : List ℕ) where
   pub kept-along : (scheduled_call s memory input output list).answer ≡ AcceptedScheduled
       → (i : AsInRounds s memory input output list) × ((w : ℕ) → w < length (equations s memory input output i.accepted)
-      → is_kept (wire_byte s w) ≡ true → KeptAfter s memory input output i.accepted w)
+      → is_kept (get_or s (2 + get_or s 0 0 + w) 0) ≡ true → KeptAfter s memory input output i.accepted w)
   kept-along a = let i = as_in_rounds s memory input output list a in (i, kept-after s memory input output i.accepted)

@@ -6,10 +6,10 @@ use Rattle.main_loop.proofs.main.Statement.{statement}
 use Rattle.main_loop.proofs.main.Tie as tie
 
 abbrev invariant_loop : tie.invariant_loop
-invariant_loop board memory₀ output₀ standing₀ row₀ memory output standing row = row ≤ 15
+invariant_loop board memory₀ output₀ standing₀ row₀ memory output standing row = row ≤ 14
 
 abbrev decreases_loop : tie.decreases_loop
-decreases_loop board memory₀ output₀ standing₀ row₀ memory output standing row = 15 - row
+decreases_loop board memory₀ output₀ standing₀ row₀ memory output standing row = 14 - row
 
 put-board-requires : tie.Need-put-board-requires invariant_loop decreases_loop
 put-board-requires c κs = search rules

@@ -7,9 +7,10 @@ use native.Mathlib.Omega.{arith}
 use lib.ListN.{length}
 use borrow.Author.Rules.{rules}
 use borrow.Author.Tests.{eq-eqb, ne_eqb, lt-ltb, le-ltb}
-use Rattle.board.specs.Serving.{except_kept}
+use Rattle.board.specs.Serving.{every_cell}
 use Rattle.board.specs.Ticks.{packed_tick, PackableTick}
 use Rattle.board.specs.Laws.Refusals.{tick_packable}
+use Rattle.board.specs.Laws.Serving.{every-cell}
 use Rattle.tick.specs.Ticking.{Leaves}
 use Rattle.tick.specs.declared.Answered.{Answered}
 use Rattle.probe.specs.Ticks.{state_after, tick_in, probe_tick, Probes}
@@ -29,7 +30,7 @@ module _ (board memory input output state : List ℕ) where
   module _ {r : Answered} {stored written : List ℕ} (leaves : Leaves (tick_in board memory input output state) r stored written)
       (short : length board < 65536) where
     packable : PackableTick r.answer
-    packable = rw leaves.answers (tick_packable except_kept board _ _ short)
+    packable = rw leaves.answers (tick_packable every_cell every-cell board _ _ short)
 
     ticked : length state ≡ 8 → {answer : ℕ} {noted : List ℕ} → answer ≡ packed_tick r.answer
         → noted ≡ state_after state r.answer r.standing → Probes (probe_tick board memory input output state) answer stored written noted

@@ -36,13 +36,9 @@ pub passed-checked : (s : List ℕ) {sheet : Sheet} → sheet_of s ≡ result sh
     → check_of s ≡ Passed (length sheet.input_types) (length sheet.wire_types) (length sheet.outputs) (length (sheet_forms sheet))
 passed-checked s e = let p = passed_check s e in rw (p.read, p.counted)
 
--- the type byte of a wire: those of the wires stand behind those of the inputs
-abbrev pub wire_byte : (s : List ℕ) (w : ℕ) → ℕ
-wire_byte s w = get_or s (2 + get_or s 0 0 + w) 0
-
--- a wire of a sheet that passes is kept just where its type byte says so
+-- a wire of a sheet that passes is kept just where its type byte says so: the types of the wires stand behind those of the inputs
 pub kept-by-byte : (s : List ℕ) {sheet : Sheet} → sheet_of s ≡ result sheet → (w : ℕ) → w < length sheet.expressions
-    → is_kept_wire (expression_at sheet.expressions w) ≡ is_kept (wire_byte s w)
+    → is_kept_wire (expression_at sheet.expressions w) ≡ is_kept (get_or s (2 + get_or s 0 0 + w) 0)
 unfolding read_wires
 kept-by-byte s {sheet} e w l =
     let p = passed_check s e in
@@ -56,7 +52,7 @@ kept-by-byte s {sheet} e w l =
     omega (arith, g₁.count, g₁.bytes.next, g₂.bytes.next) in
     let inside : w < length wires = omega (arith, ap length trees, run.sized) in
     let few : w < v.wire_count = omega (arith, inside, section-length g₂) in
-    let byte : get_or wires w 0 ≡ wire_byte s w = rw (get_or-take, get_or-drop, place) in
+    let byte : get_or wires w 0 ≡ get_or s (2 + get_or s 0 0 + w) 0 = rw (get_or-take, get_or-drop, place) in
     ap (λ x. is_kept_wire (expression_at x w)) trees
     ∙ (wires-kept (before s v.inputs_end v.input_count) wires s wires v.outputs_end (kept_count wires) v.each w inside
     ∙ ap is_kept byte)

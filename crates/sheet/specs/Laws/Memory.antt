@@ -1,6 +1,6 @@
 -- A memory and a row that pass their checks hold valid cells and data; what is valid is written, passes and reads back as itself; the
 -- memory is valid at the start.
-use Rattle.std.specs.Prelude.{ℕ, zero, suc, ◌+◌, ◌*◌, ◌<◌, ◌≡◌, Bool, true, false, ◌&&◌, cond, eqb, length, get_or}
+use Rattle.std.specs.Prelude.{ℕ, zero, suc, ◌+◌, ◌*◌, ◌<◌, ◌≡◌, Bool, true, false, cond, eqb, length, get_or}
 use Rattle.std.proofs.Math.Path.{refl}
 use Rattle.std.proofs.Common.{sym, ap, subst, zero-add, arith, length-append, get_or-append-add, eq-eqb, to_z-of_z}
 use mathlib.Core.List.{List, [], ◌∷◌, ◌++◌, map-append}
@@ -13,12 +13,11 @@ use Rattle.sheet.specs.Expressions.{Alternatives, only, either, Switch, present,
 use Rattle.sheet.specs.Expressions.{CellForm, fby_cell, switch_forms, cell_forms, forms_in}
 use Rattle.sheet.specs.Outcomes.{result}
 use Rattle.sheet.specs.Sheets.{Sheet, forms_of, sheet_forms}
-use Rattle.sheet.specs.Memory.{cell_bytes, memory_bytes, mark_at, cell_word_at, read_cell, starts_empty}
+use Rattle.sheet.specs.Memory.{cell_bytes, memory_bytes, mark_at, cell_word_at, read_cell}
 use Rattle.sheet.specs.Memory.{valid_cell, invalid_at, cells_from, memory_of, start_memory}
 use Rattle.sheet.specs.Rows.{row_bytes, wrong_at, data_from, inputs_of}
 use Rattle.sheet.specs.Typing.{Pairwise, done, ◌then◌, unary_type, operand_type, HasType, AlternativesHaveType, HaveTypes, WellTyped}
 use Rattle.sheet.specs.Typing.{ValidCell, ValidCells, ValidMemory, ValidRow}
-use Rattle.sheet.specs.Laws.Lists.{never}
 use Rattle.sheet.specs.Laws.Lowest.{none-lowest}
 use Rattle.sheet.specs.Laws.Outcomes.{same-result, length-passed, any-passed}
 use Rattle.sheet.specs.Laws.Typing.{datum-is, own-type}
@@ -52,16 +51,16 @@ memory_view forms memory {cells} e =
     let (valid, e₂) = any-passed CellContent (invalid_at forms memory) (length forms) _ e₁ in
     record { sized = sized; valid = λ k l. not-false _ (valid k l); is = sym (same-result e₂) }
 
-valid-cell : (f : CellForm) (mark word : ℕ) → valid_cell f mark word ≡ true
-    → ValidCell f (cond (eqb mark 0) NotStarted (Started (datum_of f.type word)))
-valid-cell f mark word e = go f.start (eqb mark 0) refl e
+valid-cell : (type : ValueType) (start : Cell) (mark word : ℕ) → valid_cell (record { type = type; start = start }) mark word ≡ true
+    → ValidCell (record { type = type; start = start }) (cond (eqb mark 0) NotStarted (Started (datum_of type word)))
+valid-cell type start mark word e = go start (eqb mark 0) refl e
   where
-    go : (c : Cell) (b : Bool) → f.start ≡ c
-        → cond b (starts_empty c && eqb word 0) (eqb mark 1 && stands_for f.type word) ≡ true
-        → ValidCell f (cond b NotStarted (Started (datum_of f.type word)))
-    go NotStarted true is e = is
-    go (Started d) true is e = never (cc)
-    go c false is e = datum-is f.type word
+    go : (c : Cell) (b : Bool) → eqb mark 0 ≡ b → valid_cell (record { type = type; start = c }) mark word ≡ true
+        → ValidCell (record { type = type; start = c }) (cond b NotStarted (Started (datum_of type word)))
+    go NotStarted true q e = refl
+    go (Started d) true q e = cc (rw q at e)
+    go NotStarted false q e = datum-is type word
+    go (Started d) false q e = datum-is type word
 
 cells-valid : (memory : List ℕ) (k : ℕ) (forms : List CellForm)
     → ((i : ℕ) → i < length forms → valid_cell (get_or forms i (fby_cell boolean)) (mark_at memory (k + i)) (cell_word_at memory (k + i)) ≡ true)
@@ -70,7 +69,7 @@ unfolding cells_from
 cells-valid memory k [] h = done
 cells-valid memory k (f ∷ fs) h =
     let here : k + 0 ≡ k = omega arith in
-    valid-cell f (mark_at memory k) (cell_word_at memory k) (rw here at (h 0 (omega arith)))
+    valid-cell f.type f.start (mark_at memory k) (cell_word_at memory k) (rw here at (h 0 (omega arith)))
     then cells-valid memory (suc k) fs (λ i l. let e : k + suc i ≡ suc k + i = omega arith in rw e at (h (suc i) (omega arith)))
 
 pub memory_valid : (forms : List CellForm) (memory : List ℕ) {cells : List Cell} → memory_of forms memory ≡ result cells
@@ -78,14 +77,6 @@ pub memory_valid : (forms : List CellForm) (memory : List ℕ) {cells : List Cel
 memory_valid forms memory e =
     let v = memory_view forms memory e in
     subst (λ x. ValidCells forms x) (sym v.is) (cells-valid memory 0 forms (λ i l. rw (zero-add i) (v.valid i l)))
-
--- the cells, one by one
-pub cell-read : (memory : List ℕ) (forms : List CellForm) (k j : ℕ) → j < length forms
-    → get_or (cells_from memory k forms) j NotStarted ≡ read_cell (get_or forms j (fby_cell boolean)).type memory (k + j)
-unfolding cells_from
-cell-read memory [] k j l = absurd (omega arith)
-cell-read memory (f ∷ fs) k zero l = let e : k + 0 ≡ k = omega arith in rw e
-cell-read memory (f ∷ fs) k (suc j) l = let e : k + suc j ≡ suc k + j = omega arith in rw e (cell-read memory fs (suc k) j (omega arith))
 
 -- What passes 14 and 15.
 data_valid : (row : List ℕ) (i : ℕ) (types : List ValueType) → ValidRow types (data_from row i types)
@@ -132,16 +123,16 @@ word_back boolean (Boolean false) h = refl
 word_back number (Number z) h = ap Number (to_z-of_z h)
 
 -- Behind the bytes of a cell the others stand one number further on.
-module _ (cell rest : List ℕ) (sized : length cell ≡ 5) where
-  byte-behind : (n m : ℕ) → m ≡ 5 + n → get_or (cell ++ rest) m 0 ≡ get_or rest n 0
+module _ (c : Cell) (rest : List ℕ) where
+  byte-behind : (n m : ℕ) → m ≡ 5 + n → get_or (cell_bytes c ++ rest) m 0 ≡ get_or rest n 0
   byte-behind n m e =
-      let place : m ≡ length cell + n = omega arith in
-      rw place (get_or-append-add cell rest n 0)
+      let place : m ≡ length (cell_bytes c) + n = omega (arith, cell-length c) in
+      rw place (get_or-append-add (cell_bytes c) rest n 0)
 
-  pub mark-behind : (k : ℕ) → mark_at (cell ++ rest) (suc k) ≡ mark_at rest k
+  mark-behind : (k : ℕ) → mark_at (cell_bytes c ++ rest) (suc k) ≡ mark_at rest k
   mark-behind k = byte-behind (5 * k) (5 * suc k) (omega arith)
 
-  pub word-behind : (k : ℕ) → cell_word_at (cell ++ rest) (suc k) ≡ cell_word_at rest k
+  word-behind : (k : ℕ) → cell_word_at (cell_bytes c ++ rest) (suc k) ≡ cell_word_at rest k
   word-behind k =
       let at = 5 * k + 1 in
       let far = 5 * suc k + 1 in
@@ -152,7 +143,7 @@ module _ (cell rest : List ℕ) (sized : length cell ≡ 5) where
         byte-behind (at + 3) (far + 3) (omega arith),
       )
 
-  pub cells-behind : (k : ℕ) (forms : List CellForm) → cells_from (cell ++ rest) (suc k) forms ≡ cells_from rest k forms
+  cells-behind : (k : ℕ) (forms : List CellForm) → cells_from (cell_bytes c ++ rest) (suc k) forms ≡ cells_from rest k forms
   unfolding cells_from
   cells-behind k [] = refl
   cells-behind k (f ∷ fs) = rw (mark-behind k, word-behind k, cells-behind (suc k) fs)
@@ -161,32 +152,31 @@ module _ (cell rest : List ℕ) (sized : length cell ≡ 5) where
 word_first : (mark x : ℕ) (rest : List ℕ) → x < 4294967296 → word_at (mark ∷ word_bytes x ++ rest) 1 ≡ x
 word_first mark x rest h = omega arith
 
-pub first_back : (f : CellForm) (c : Cell) (rest : List ℕ) → ValidCell f c → read_cell f.type (cell_bytes c ++ rest) 0 ≡ c
-first_back f NotStarted rest h = refl
-first_back f (Started d) rest h =
-    rw (word_first 1 (word_of d) rest (word_below f.type d h)) (ap Started (word_back f.type d h))
+first_back : (type : ValueType) (start c : Cell) (rest : List ℕ) → ValidCell (record { type = type; start = start }) c
+    → read_cell type (cell_bytes c ++ rest) 0 ≡ c
+first_back type start NotStarted rest h = refl
+first_back type start (Started d) rest h =
+    rw (word_first 1 (word_of d) rest (word_below type d h)) (ap Started (word_back type d h))
 
-pub first-valid : (f : CellForm) (c : Cell) (rest : List ℕ) → ValidCell f c
-    → valid_cell f (mark_at (cell_bytes c ++ rest) 0) (cell_word_at (cell_bytes c ++ rest) 0) ≡ true
-first-valid f NotStarted rest h = rw h
-first-valid f (Started d) rest h =
-    rw (word_first 1 (word_of d) rest (word_below f.type d h)) (word_stands f.type d h)
+first-valid : (type : ValueType) (start c : Cell) (rest : List ℕ) → ValidCell (record { type = type; start = start }) c
+    → valid_cell (record { type = type; start = start }) (mark_at (cell_bytes c ++ rest) 0) (cell_word_at (cell_bytes c ++ rest) 0) ≡ true
+first-valid type start NotStarted rest h = rw h
+first-valid type start (Started d) rest h =
+    rw (word_first 1 (word_of d) rest (word_below type d h)) (word_stands type d h)
 
 cells-back : {forms : List CellForm} {cells : List Cell} → ValidCells forms cells → cells_from (memory_bytes cells) 0 forms ≡ cells
 unfolding memory_bytes cells_from
 cells-back done = refl
 cells-back (◌then◌ {x = f} {y = c} {xs = fs} {ys = cs} p ps) =
-    rw (first_back f c (memory_bytes cs) p, cells-behind (cell_bytes c) (memory_bytes cs) (cell-length c) 0 fs, cells-back ps)
+    rw (first_back f.type f.start c (memory_bytes cs) p, cells-behind c (memory_bytes cs) 0 fs, cells-back ps)
 
 cells-pass : {forms : List CellForm} {cells : List Cell} → ValidCells forms cells → (k : ℕ) → k < length forms
     → invalid_at forms (memory_bytes cells) k ≡ false
 unfolding memory_bytes invalid_at
 cells-pass done k l = absurd (omega arith)
-cells-pass (◌then◌ {x = f} {y = c} {ys = cs} p ps) zero l = rw (first-valid f c (memory_bytes cs) p)
+cells-pass (◌then◌ {x = f} {y = c} {ys = cs} p ps) zero l = rw (first-valid f.type f.start c (memory_bytes cs) p)
 cells-pass (◌then◌ {y = c} {ys = cs} p ps) (suc k) l =
-    let mark = mark-behind (cell_bytes c) (memory_bytes cs) (cell-length c) k in
-    let word = word-behind (cell_bytes c) (memory_bytes cs) (cell-length c) k in
-    rw (mark, word) (cells-pass ps k (omega arith))
+    rw (mark-behind c (memory_bytes cs) k, word-behind c (memory_bytes cs) k) (cells-pass ps k (omega arith))
 
 -- what an instant writes passes 12 and 13 again and reads back as itself
 pub memory_back : {forms : List CellForm} {cells : List Cell} → ValidCells forms cells → memory_of forms (memory_bytes cells) ≡ result cells

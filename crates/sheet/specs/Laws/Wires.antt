@@ -117,7 +117,7 @@ module _ (inputs wires s : List ℕ) where
   all-extent at r = wires-extent wires at (kept_count wires) r
 
   -- a wire is kept as its type byte says
-  pub plain-tree : (level t at c : ℕ) {e : Expression} {n k : ℕ} → read_expression inputs wires s level t at c ≡ got e n k → is_kept_wire e ≡ false
+  plain-tree : (level t at c : ℕ) {e : Expression} {n k : ℕ} → read_expression inputs wires s level t at c ≡ got e n k → is_kept_wire e ≡ false
   unfolding meaning_of
   plain-tree zero t at c r = absurd (no-level inputs wires s t at c r)
   plain-tree (suc l) t at c r =

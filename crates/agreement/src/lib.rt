@@ -1,5 +1,7 @@
 // Calls whose agreement is promised, made one after another: the two instants on copies of one memory, demand 3 of the order, and a
 // preview before its instant, K3. Rests on their contracts.
+#![tactic(auto)]
+
 ghost use Rattle.std.specs.Prelude.{◌≡◌, length};
 ghost use Rattle.kernel.specs.Calls.{rounds_call, scheduled_call, Shows, Leaves};
 ghost use Rattle.kernel.specs.Laws.Previews.{PreviewAgrees};
@@ -8,7 +10,7 @@ ghost use Rattle.agreement.specs.Agreement.{Beside, BothGiven, Agreed};
 use kernel::{InRounds, Scheduled};
 
 // What the two instants answer together: the rounds, where both are accepted.
-#[derive(Drop)]
+#[derive(Clone, Copy)]
 pub enum Together {
     NotAccepted,
     Accepted { rounds: usize },
@@ -44,7 +46,7 @@ pub fn both(
 }
 
 // What a preview answers, and the instant in rounds behind it.
-#[derive(Drop)]
+#[derive(Clone, Copy)]
 pub struct Previewed {
     pub preview: InRounds,
     pub instant: InRounds,

@@ -1,5 +1,7 @@
 // The instant along a schedule: the checks, one pass over the wires, then the next memory and the outputs. Rests on `given` for the
 // checks 1 to 16, on `schedule` for 17 to 19, on `pass` for the values, on `next_memory` for the storing, and on `rounds` for the row.
+#![tactic(auto)]
+
 ghost use Rattle.kernel.specs.Calls.{scheduled_call, Leaves};
 
 use given::Given;

@@ -1,9 +1,11 @@
 // A board of sheets, and what a tick of it answers and hands on. Its definitions and theorems are in specs/. Rests on `sheet` for refusals.
+#![tactic(auto)]
+
 use sheet::Refusal;
 
 // What a tick answers: a refusal; or that no sheet is due; or the sheet that was served, by its number in the board, with the rounds of its
 // instant, or with the wire at which its instant was refused 20.
-#[derive(Drop)]
+#[derive(Clone, Copy)]
 pub enum Ticked {
     Refused { why: Refusal, place: usize },
     NoneDue,
@@ -12,7 +14,7 @@ pub enum Ticked {
 }
 
 // What a tick takes and hands back: the stored marks, of the sheets that are due, and the number of the sheet served last.
-#[derive(Drop)]
+#[derive(Clone, Copy)]
 pub struct Standing {
     pub stored: u8,
     pub number: u8,

@@ -1,6 +1,8 @@
 // The check of a board's sheets and of its buffers, once its frame passed: 1 to 11 of each sheet, in board order, with places counted in
 // the board; then 12 to 16 over the whole memory and rows. Rests on `board_frame` for lengths, on `sheet_check` for a sheet and its map, and
 // on `buffers` for the whole.
+#![tactic(auto)]
+
 ghost use Rattle.std.specs.Prelude.{◌≡◌, ℕ, ◌+◌, ◌≤◌, List, length};
 ghost use Rattle.std.proofs.Math.Seq.{paste};
 ghost use Rattle.sheet.specs.Outcomes.{result};
@@ -14,7 +16,7 @@ use buffers::Tested;
 use sheet::{Checked, Refusal};
 
 // Where a sheet of a board and its parts begin: the place of its length, and how many cells, inputs and outputs the sheets before it have.
-#[derive(Drop)]
+#[derive(Clone, Copy)]
 pub struct Begin {
     pub at: usize,
     pub cells: usize,
@@ -24,21 +26,21 @@ pub struct Begin {
 
 // What the checks come to: the first refusal 1 to 16 with its place, or where the wanted sheet and its parts begin, and where they end,
 // which is where those of the next sheet begin.
-#[derive(Drop)]
+#[derive(Clone, Copy)]
 pub enum Found {
     Refused { why: Refusal, place: usize },
     Passed { from: Begin, to: Begin },
 }
 
 // What the checks of the sheets alone come to: the same, and where the last sheet and its parts end.
-#[derive(Drop)]
+#[derive(Clone, Copy)]
 enum Walked {
     Refused { why: Refusal, place: usize },
     Passed { from: Begin, to: Begin, end: Begin },
 }
 
 // What the check of one sheet comes to: its refusal, or where it and its parts end.
-#[derive(Drop)]
+#[derive(Clone, Copy)]
 enum Step {
     Refused { why: Refusal, place: usize },
     Next { next: Begin },

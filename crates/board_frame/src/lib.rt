@@ -1,10 +1,12 @@
 // The frame of a board: its count byte and the lengths of its sheets, with refusal 22. Rests on `numbers` for a byte as a length.
+#![tactic(auto)]
+
 ghost use Rattle.std.specs.Prelude.{◌≡◌, ◌<◌, ◌≤◌, get_or};
 ghost use Rattle.board.specs.Boards.{count_byte, length_at, frame_of};
 ghost use Rattle.board_frame.specs.Frames.{framed_of};
 
 // What the frame of a board comes to: refusal 22 at a place, or so many sheets.
-#[derive(Drop)]
+#[derive(Clone, Copy)]
 pub enum Framed {
     Refused { place: usize },
     Sheets { count: usize },

@@ -1,4 +1,6 @@
 // Marks of a board's sheets as sets, and the first due sheet in ring order. Rests on `wires` for sets held as bits.
+#![tactic(auto)]
+
 ghost use Rattle.std.specs.Prelude.{◌≡◌, Bool, ◌||◌, ℕ, ◌+◌, ◌%◌, ◌≤◌, ◌<◌};
 ghost use Rattle.board.specs.Marks.{marked, marks_of, served_last, first_due};
 ghost use Rattle.board_marks.specs.Sets.{MarksJust};

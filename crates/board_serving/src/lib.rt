@@ -1,5 +1,7 @@
 // A sheet of a board is served: its instant in rounds on its own parts, from its starting memory where it is restarted.
 // Rests on `in_rounds` for the instant and on `sheet_start` for the starting memory.
+#![tactic(auto)]
+
 ghost use Rattle.std.specs.Prelude.{◌≡◌, true, length};
 ghost use Rattle.kernel.specs.Calls.{Leaves};
 ghost use Rattle.board.specs.Serving.{every_cell, served_call};

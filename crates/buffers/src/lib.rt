@@ -1,6 +1,8 @@
 // The checks 12 to 16 of an instant's buffers, by the counts and the types of its sheet and the forms of its cells; and of those of a board, which
 // has up to eight times as many.
 // Rests on `data` for what a word stands for and on `numbers` for words.
+#![tactic(auto)]
+
 ghost use Rattle.std.specs.Prelude.{◌≡◌, ◌*◌, ◌≤◌, List, map, length};
 ghost use Rattle.sheet.specs.Data.{type_of_byte};
 ghost use Rattle.sheet.specs.Expressions.{CellForm};
@@ -12,7 +14,7 @@ ghost use Rattle.buffers.specs.Tests.{tested_of, buffers_tested, Formed};
 use sheet::{Refusal, data};
 
 // What the checks of some buffers find.
-#[derive(Drop)]
+#[derive(Clone, Copy)]
 pub enum Tested {
     Refused { why: Refusal, place: usize },
     Fine,

@@ -1,5 +1,7 @@
 // The closure of a relation on at most 64 wires, which is held as one set for each wire: those that it leads to.
 // Rests on `wires` for the sets.
+#![tactic(auto)]
+
 ghost use Rattle.std.specs.Prelude.{◌≡◌, Bool, ℕ, ◌≤◌, ◌<◌, length};
 ghost use Rattle.closure.specs.Closures.{let_in, through, lowest_loop, Rows};
 

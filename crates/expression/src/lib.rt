@@ -1,5 +1,7 @@
 // The value of an expression over the bytes of a sheet.
 // Rests on `leaves` for what has no operands, on `kernel` for values and on `data` for what a word stands for.
+#![tactic(auto)]
+
 pub mod value;
 
 ghost use Rattle.std.specs.Prelude.{◌≡◌, false};

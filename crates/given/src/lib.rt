@@ -1,5 +1,7 @@
 // What an instant is given: the checks 1 to 16 of its buffers, the map of its sheet and the words of its inputs and kept wires' cells. Rests
 // on `sheet_check` for 1 to 11 and the map, which holds the forms of the cells, on `buffers` for 12 to 16, and on `leaves` for these words.
+#![tactic(auto)]
+
 ghost use Rattle.std.specs.Prelude.{◌≡◌, ◌≤◌, length};
 ghost use Rattle.leaves.specs.Words.{word_count, InputsPut, KeptCells, LastsPut};
 ghost use Rattle.given.specs.Grants.{Grants, parts_of};
@@ -10,7 +12,7 @@ use sheet::{Checked, Refusal};
 
 // What the checks of an instant's buffers answer: the first refusal 1 to 16 with its place, or where the types of the wires and the
 // outputs stand in the sheet.
-#[derive(Drop)]
+#[derive(Clone, Copy)]
 pub enum Given {
     Refused {
         why: Refusal,

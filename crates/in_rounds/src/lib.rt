@@ -1,6 +1,8 @@
 // The instant in rounds, and its preview, which stores nothing: one function makes the checks, the finished values and the output row
 // for both. Rests on `given` for the checks 1 to 16, on `rounds` for the values and the row, on `waiting` for the wire that a refusal names
 // and on `next_memory` for the storing.
+#![tactic(auto)]
+
 ghost use Rattle.std.specs.Prelude.{◌≡◌, ◌≤◌, length};
 ghost use Rattle.kernel.specs.Calls.{rounds_call, Shows, Leaves, packed_rounds, Packable};
 ghost use Rattle.leaves.specs.Words.{word_count};
@@ -11,7 +13,7 @@ use kernel::InRounds;
 use sheet::{Refusal, refusals};
 
 // What an instant in rounds comes to before anything is stored: a refusal, or the rounds, and where the types of the wires stand.
-#[derive(Drop)]
+#[derive(Clone, Copy)]
 enum Shown {
     Refused {
         why: Refusal,

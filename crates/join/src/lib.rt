@@ -1,9 +1,11 @@
 // Two sheets into one: what joining answers, and the counts of a sheet. The definitions and theorems are in specs/. Rests on `sheet` for refusals.
+#![tactic(auto)]
+
 use sheet::Refusal;
 
 // What joining two sheets answers: a refusal of the first or of the second, with its place in that sheet; another refusal; or that the joined
 // sheet is written.
-#[derive(Drop)]
+#[derive(Clone, Copy)]
 pub enum Joining {
     FirstRefused { why: Refusal, place: usize },
     SecondRefused { why: Refusal, place: usize },
@@ -12,7 +14,7 @@ pub enum Joining {
 }
 
 // The four counts that the check of a sheet answers.
-#[derive(Drop)]
+#[derive(Clone, Copy)]
 pub struct Counts {
     pub inputs: usize,
     pub wires: usize,

@@ -1,5 +1,7 @@
 // Two sheets into one: both are checked, limits and room are tested, and then the joined sheet is written, section by section. Rests on
 // `sheet_check` for the check of each sheet, and on `sheet` for the table of kinds.
+#![tactic(auto)]
+
 mod writing;
 
 ghost use Rattle.std.specs.Prelude.{◌≡◌};

@@ -1,4 +1,6 @@
 // The lines that the player prints, as bytes in a lent buffer. Rests on `text` for their pieces.
+#![tactic(auto)]
+
 ghost use Rattle.std.specs.Prelude.{◌≤◌, length};
 ghost use Rattle.text.specs.Pieces.{numbers_of};
 ghost use Rattle.lines.specs.Buffers.{Holds};

@@ -1,5 +1,7 @@
 // The main loop of a meter: one board of a tariff, a relay and a display sheet, served tick after tick, with a line for each tick.
 // Rests on `tick` for the tick, on `sheet_start` for each sheet's starting memory, on `text` and `io` for bytes and lines.
+#![tactic(auto)]
+
 ghost use Rattle.std.specs.Prelude.{◌≡◌, ◌≤◌, ◌<◌, length};
 
 use board::{Standing, Ticked};

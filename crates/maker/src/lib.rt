@@ -1,5 +1,7 @@
 // The maker of a schedule: it fills a lent list with the wires of a sheet, each after all that it reads within the instant.
 // Rests on the check of a sheet for the map, which has what each wire reads, and on `closure` where there is no such list.
+#![tactic(auto)]
+
 mod depths;
 mod placing;
 
@@ -18,7 +20,7 @@ ghost use Rattle.maker.specs.declared.Made.TheVariants.{Refused, Done};
 use sheet::{Checked, Refusal};
 
 // What the maker answers: a refusal, or the greatest depth of the sheet's wires.
-#[derive(Drop)]
+#[derive(Clone, Copy)]
 pub enum Made {
     Refused { why: Refusal, place: usize },
     Done { depth: usize },

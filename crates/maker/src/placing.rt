@@ -77,7 +77,7 @@ fn look_again(
 }
 
 // What came of placing: how many positions are filled, and the greatest depth of the wires there.
-#[derive(Drop)]
+#[derive(Clone, Copy)]
 pub struct Positions {
     pub filled: usize,
     pub depth: u8,

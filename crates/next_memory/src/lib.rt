@@ -1,5 +1,7 @@
 // The next memory: one wire after the other stores its word, where it is kept, and its expression advances, where that may own cells.
 // Rests on `advance` of `storing` for one expression, on `memory` for the cell of a kept wire, and on the map for where a wire stands.
+#![tactic(auto)]
+
 ghost use Rattle.std.specs.Prelude.{◌≡◌, false, ◌+◌, ◌-◌, ◌*◌, ◌<◌, ◌≤◌, length, get_or};
 ghost use Rattle.std.proofs.lemmas.List.Edits.{sets};
 ghost use Rattle.sheet.specs.Data.{wire_type, datum_of};

@@ -1,5 +1,6 @@
 // The 32-bit numbers that wires carry: their bits, what the operations make of them, and their four bytes in a row or a cell;
 // and a byte as a length.
+#![tactic(auto)]
 
 ghost use Rattle.std.specs.Prelude.{◌≡◌, ◌+◌, ◌<◌, ◌≤◌, neg_ℤ, ◌+ℤ◌, ◌-ℤ◌, length};
 ghost use Rattle.std.proofs.lemmas.List.Edits.{sets};

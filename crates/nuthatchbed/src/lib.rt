@@ -1,5 +1,7 @@
 // The four calls of the C library, each a packed number: a refusal's number times 65,536 plus its place, else what the call gives.
 // Rests on `sheet_check`, `sheet_start`, `in_rounds` and `along_schedule` for the calls themselves.
+#![tactic(auto)]
+
 ghost use Rattle.std.specs.Prelude.{◌≡◌};
 ghost use Rattle.sheet.specs.Sheets.{check_of, packed_checked};
 ghost use Rattle.sheet.specs.Memory.{start_call, packed_started};

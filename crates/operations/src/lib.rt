@@ -1,5 +1,7 @@
 // The operations of kinds 4 to 11 on the words of their operands.
 // Rests on `kernel` for what they mean, on `numbers` for arithmetic and comparison, and on `data` for the word of a Boolean.
+#![tactic(auto)]
+
 ghost use Rattle.std.specs.Prelude.{◌≡◌, cond};
 ghost use Rattle.kernel.specs.Operations.{unary_of, binary_of};
 ghost use Rattle.operations.specs.Words.{unary_word, binary_word};

@@ -1,5 +1,7 @@
 // The pass along a list of wires, each of which is worked out once.
 // Rests on `expression` for a wire's value, on `rounds` for the set and the words, and on the map for where it stands.
+#![tactic(auto)]
+
 ghost use Rattle.std.specs.Prelude.{length};
 ghost use Rattle.leaves.specs.Words.{fixed_words};
 ghost use Rattle.rounds.specs.Running.{Holds};

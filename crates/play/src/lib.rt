@@ -1,5 +1,7 @@
 // The player's text, line after line: what document 01 has the player print for an input, given into a lent buffer.
 // Rests on `sheet_check`, `sheet_start` and `in_rounds` for the calls, and on `lines` for the lines.
+#![tactic(auto)]
+
 ghost use Rattle.std.specs.Prelude.{◌≡◌, ◌+◌, ◌*◌, ◌≤◌, ◌<◌, min, length};
 ghost use Rattle.sheet.specs.Outcomes.{number_of};
 ghost use Rattle.sheet.specs.Sheets.{check_of};
@@ -12,7 +14,7 @@ use kernel::InRounds;
 use sheet::{Checked, Refusal};
 
 // Where the player stands between two lines.
-#[derive(Drop)]
+#[derive(Clone, Copy)]
 pub enum Stage {
     Begin,
     Playing(Progress),
@@ -20,7 +22,7 @@ pub enum Stage {
 }
 
 // How far the instants of a sheet are played.
-#[derive(Drop)]
+#[derive(Clone, Copy)]
 pub struct Progress {
     // How many bytes the sheet has for an input row, for an output row and for its memory.
     pub input: usize,
@@ -33,7 +35,7 @@ pub struct Progress {
 }
 
 // What asking for the next line answers.
-#[derive(Drop)]
+#[derive(Clone, Copy)]
 pub enum Next {
     End,
     Line { size: usize, stage: Stage },

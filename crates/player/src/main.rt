@@ -1,5 +1,7 @@
 // The player: reads a sheet and its input rows, and prints what document 01 says of them.
 // Rests on `play` for every line, and on `io` for both streams.
+#![tactic(auto)]
+
 use libc::{STDIN_FILENO, STDOUT_FILENO};
 use play::{Next, Stage};
 

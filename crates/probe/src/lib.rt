@@ -1,5 +1,7 @@
 // The calls that the C library does not have, for the tests to reach from C; no part of what is delivered. Each returns a packed
 // number as those of the C library do. Rests on `maker`, `in_rounds`, `tick` and `joining` for the calls themselves.
+#![tactic(auto)]
+
 ghost use Rattle.std.specs.Prelude.{◌≡◌, length};
 ghost use Rattle.kernel.specs.Calls.{rounds_call, packed_rounds};
 ghost use Rattle.maker.specs.Making.{maker_call, packed_made};

@@ -1,5 +1,7 @@
 // The wires that read each wire, from the sets of the wires that each one reads; so that a wire which becomes known names its readers at
 // once. Rests on `wires` for sets.
+#![tactic(auto)]
+
 ghost use Rattle.std.specs.Prelude.{ℕ, ◌≤◌, ◌<◌, ◌≡◌, length, get_or};
 ghost use Rattle.readers.specs.Readers.{AddsReader, Readers, Reading};
 

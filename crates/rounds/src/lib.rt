@@ -1,6 +1,8 @@
 // The rounds of an instant, each of which goes from the highest wire to the lowest, passes known wires over and works the others out from
 // the values before it; and the output row of the words. Rests on `expression` for the value of one expression, on `wires` for sets and on
 // `readers` for the wires that are due.
+#![tactic(auto)]
+
 ghost use Rattle.std.specs.Prelude.{◌≡◌, ◌*◌, ◌≤◌, ◌<◌, length};
 ghost use Rattle.kernel.specs.Systems.{round_over};
 ghost use Rattle.kernel.specs.Instants.{rounds, finished};
@@ -14,7 +16,7 @@ use sheet_expressions::map;
 use wires::Wires;
 
 // What the rounds of an instant come to: the known wires, and the rounds that were made.
-#[derive(Drop)]
+#[derive(Clone, Copy)]
 pub struct Finished {
     pub known: Wires,
     pub rounds: usize,

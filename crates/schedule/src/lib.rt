@@ -1,4 +1,6 @@
 // The checks 17 to 19 of a schedule. Rests on the set of wires, and on `sheet_expressions` for the map of a sheet.
+#![tactic(auto)]
+
 ghost use Rattle.std.specs.Prelude.{◌≡◌, List, ℕ, ◌<◌, ◌≤◌, length};
 ghost use Rattle.sheet.specs.Outcomes.{lowest};
 ghost use Rattle.sheet.specs.Sheets.{Sheet};
@@ -11,7 +13,7 @@ use sheet::Refusal;
 use wires::Wires;
 
 // What the checks of a schedule answer.
-#[derive(Drop)]
+#[derive(Clone, Copy)]
 pub enum Ordered {
     Refused { why: Refusal, place: usize },
     Passed,

@@ -1,5 +1,7 @@
 // The sheet: its bytes, its memory's bytes, and what the check and the start answer about them.
 // Rests on `numbers` for words of 32 bits.
+#![tactic(auto)]
+
 pub mod bodies;
 pub mod data;
 pub mod kinds;
@@ -7,21 +9,21 @@ pub mod memory;
 pub mod refusals;
 
 // What an input, a constant, a cell or a known wire holds.
-#[derive(Drop)]
+#[derive(Clone, Copy)]
 pub enum Datum {
     Boolean(bool),
     Number(i32),
 }
 
 // One cell of a memory: an fby's cell holds nothing before its first instant.
-#[derive(Drop)]
+#[derive(Clone, Copy)]
 pub enum Cell {
     NotStarted,
     Started(Datum),
 }
 
 // Why a call refuses, in the order of the numbers: document 01's from 1 to 20, then those of the change requests.
-#[derive(Drop)]
+#[derive(Clone, Copy)]
 pub enum Refusal {
     SheetLength,
     Cut,
@@ -50,14 +52,14 @@ pub enum Refusal {
 
 // What reading at a place finds: a refusal, or the place past what was read and a number. The number is a count or a byte of
 // the header, and behind an expression the count of cells so far.
-#[derive(Drop)]
+#[derive(Clone, Copy)]
 pub enum Read {
     Refused { why: Refusal, place: usize },
     Got { next: usize, count: usize },
 }
 
 // What the check of a sheet answers.
-#[derive(Drop)]
+#[derive(Clone, Copy)]
 pub enum Checked {
     Refused {
         why: Refusal,
@@ -72,7 +74,7 @@ pub enum Checked {
 }
 
 // What the start of a memory answers.
-#[derive(Drop)]
+#[derive(Clone, Copy)]
 pub enum Started {
     Refused { why: Refusal, place: usize },
     Done,

@@ -1,5 +1,7 @@
 // The cell that an expression owns, as it is at the start.
 // Rests on `kinds` and `bodies` for the expression, and on `data` and `memory` for the cell.
+#![tactic(auto)]
+
 ghost use Rattle.std.specs.Prelude.{◌≡◌, ◌+◌, ◌*◌, ◌≤◌, length, get_or};
 ghost use Rattle.std.proofs.lemmas.List.Edits.{sets};
 ghost use Rattle.sheet.specs.Readings.{body_at, Whole};

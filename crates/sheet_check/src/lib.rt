@@ -1,5 +1,7 @@
 // The check of a sheet, from its first byte on: its length, the header's three sections, one expression for each wire; and the map
 // that it draws on the way. Rests on `sheet_header`, on `sheet_expressions` and on `sheet_names`.
+#![tactic(auto)]
+
 ghost use Rattle.std.specs.Prelude.{◌≡◌, true, false, ℕ, ◌≤◌, length};
 ghost use Rattle.sheet.specs.Headers.{section_of};
 ghost use Rattle.sheet.specs.Sheets.{Sheet, before, checked_of, expressions_from, outputs_from, wires_from, check_of};

@@ -1,6 +1,8 @@
 // The expressions of a sheet: an expression's own bytes, then its operands, one level deeper; on the way cells are noted and reads
 // gathered. Of the cells that are counted, those of the kept wires ahead have higher numbers than any that is noted. Rests on `sheet_own`
 // for the own bytes, on `sheet_names` for the names and for what is ahead, and on `sheet` for the table of kinds.
+#![tactic(auto)]
+
 pub mod map;
 
 ghost use Rattle.std.specs.Prelude.{◌≡◌, cond, ◌-◌, ◌<◌, ◌≤◌, length, take};

@@ -1,5 +1,7 @@
 // The header's sections: inputs and wires with their types, outputs with their wires. Every byte of the header is a field of its
 // own, read and tested before the next. Rests on `sheet` for the refusals.
+#![tactic(auto)]
+
 ghost use Rattle.std.specs.Prelude.{◌≡◌, ◌+◌, ◌^◌, ◌<◌, cond};
 ghost use Rattle.sheet.specs.Headers.{field_of, bytes_of, section_of};
 

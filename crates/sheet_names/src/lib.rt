@@ -1,5 +1,7 @@
 // What the expressions of a sheet may name: limits and types looked up by the kind of a leaf, so that the check takes no branch for
 // each, and which wires are kept. Rests on `wires` for sets of at most 64 names.
+#![tactic(auto)]
+
 ghost use Rattle.std.specs.Prelude.{◌≡◌, List, ℕ, ◌-◌, ◌≤◌, ◌<◌, length, get_or};
 ghost use Rattle.sheet.specs.Sheets.{kept_count};
 ghost use Rattle.sheet_names.specs.Naming.{limit_in, type_in, kept_in, ahead_in, Naming, Sorted};
@@ -7,7 +9,7 @@ ghost use Rattle.sheet_names.specs.Naming.{limit_in, type_in, kept_in, ahead_in,
 use wires::Wires;
 
 // What type bytes say of their names: those that stand for a number, those that are kept, and how many are kept.
-#[derive(Drop)]
+#[derive(Clone, Copy)]
 struct Types {
     numbers: Wires,
     kept: Wires,

@@ -1,5 +1,7 @@
 // The own bytes of an expression of a sheet, before its operands: whether they are refused, the cell that it owns and the wire that it
 // names. Rests on `sheet` for the table of kinds and for bodies, on `sheet_names` for what a leaf names, and on `wires`.
+#![tactic(auto)]
+
 ghost use Rattle.std.specs.Prelude.{◌≡◌, List, ℕ, ◌<◌, ◌≤◌, length, get_or};
 ghost use Rattle.std.proofs.lemmas.List.Edits.{sets};
 ghost use Rattle.sheet.specs.Reads.{wires_named};

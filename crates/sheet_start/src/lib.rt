@@ -1,5 +1,7 @@
 // The start of a memory: each cell that the check of a sheet noted is put as it is at the start.
 // Rests on `check_map`, on `sheet_cells` for the cell that an expression owns, on `data` for a kept wire's, and on `memory` for bytes.
+#![tactic(auto)]
+
 ghost use Rattle.std.specs.Prelude.{◌≡◌, cond, ◌*◌, length};
 ghost use Rattle.sheet.specs.Memory.{memory_bytes, start_memory, start_call};
 ghost use Rattle.sheet.specs.Readings.{Whole};

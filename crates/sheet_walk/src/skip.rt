@@ -6,7 +6,7 @@ ghost use Rattle.sheet_walk.specs.Skips.{Readable, SkipsIf};
 use sheet::kinds;
 
 // Where an expression ends, and the number of the first cell past its own.
-#[derive(Drop)]
+#[derive(Clone, Copy)]
 pub struct Skipped {
     pub next: usize,
     pub cell: usize,

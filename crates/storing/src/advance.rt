@@ -12,7 +12,7 @@ use sheet::{Cell, Datum, data, kinds, memory};
 
 // The word of an expression's value, the place past it and the number of the first cell past its own; the numbers stand apart, as
 // in `Valued`.
-#[derive(Drop)]
+#[derive(Clone, Copy)]
 pub struct Advanced {
     pub next: usize,
     pub word: u32,

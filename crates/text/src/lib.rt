@@ -1,5 +1,7 @@
 // Pieces of text, put one after another into a lent buffer: each function returns the place past what it put.
 // Rests on `numbers` for the numbers of an output row.
+#![tactic(auto)]
+
 ghost use Rattle.std.specs.Prelude.{◌+◌, ◌*◌, ◌≤◌, [], ◌∷◌, length};
 ghost use Rattle.text.specs.Buffers.{Puts};
 ghost use Rattle.text.specs.Digits.{digits, decimal};

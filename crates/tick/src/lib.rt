@@ -1,5 +1,7 @@
 // The tick of a board: all checks, then the first due sheet in ring order is served, on its own parts of memory and rows. Rests on `board_frame` and
 // `board_check` for the checks, on `board_marks` for the marks and the ring, and on `board_serving` for the instant.
+#![tactic(auto)]
+
 ghost use Rattle.std.specs.Prelude.{◌≡◌, Bool, not, ◌&&◌, ℕ, ◌≤◌, ◌<◌, eqb};
 ghost use Rattle.board.specs.Marks.{marks_of};
 ghost use Rattle.board.specs.Serving.{every_cell};
@@ -15,7 +17,7 @@ use sheet::{Refusal, refusals};
 use wires::Wires;
 
 // What a tick gives: its answer, and the stored marks and the number of the sheet served last, for the next one.
-#[derive(Drop)]
+#[derive(Clone, Copy)]
 pub struct Answered {
     pub answer: Ticked,
     pub standing: Standing,

@@ -11,7 +11,7 @@ use sheet_walk::skip::Skipped;
 use wires::Wires;
 
 // The unknown wires that an expression waits for, the place past it and the number of the first cell past its own.
-#[derive(Drop)]
+#[derive(Clone, Copy)]
 pub struct Waited {
     pub wires: Wires,
     pub next: usize,

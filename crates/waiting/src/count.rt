@@ -11,7 +11,7 @@ use wires::Wires;
 
 // The operands from which an unknown value is worked out: so many, one behind the other from `at` and cell number `cell` on, whether they
 // are fresh, and how many others stand behind them.
-#[derive(Drop)]
+#[derive(Clone, Copy)]
 pub struct Counted {
     pub at: usize,
     pub cell: usize,

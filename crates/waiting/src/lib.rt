@@ -1,6 +1,8 @@
 // The wire that really loops (document 02, K5): which unknown wires an unknown wire waits for, and the lowest wire that waits for itself.
 // It is asked only where an instant is refused.
 // Rests on `awaited` for what an expression waits for, and on `closure` for the lowest loop.
+#![tactic(auto)]
+
 mod awaited;
 mod count;
 

@@ -1,10 +1,12 @@
 // A set of wires, such as the known ones, held as 64 bits by value: wire k is in the set where bit k is 1. The marks of a board's sheets are
 // such a set too, of sheets instead of wires.
+#![tactic(auto)]
+
 ghost use Rattle.std.specs.Prelude.{◌≡◌, ℕ, ◌≤◌, ◌<◌, ◌&&◌, ◌||◌, not, false, eqb, ltb};
 ghost use Rattle.wires.specs.Sets.{member, tally, LowestPresent, EndsAt, TestsWithin};
 
 // A set of wires, each below 64.
-#[derive(Drop)]
+#[derive(Clone, Copy)]
 pub struct Wires {
     pub bits: u64,
 }

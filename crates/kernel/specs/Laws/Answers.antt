@@ -3,7 +3,7 @@
 use Rattle.std.specs.Prelude.{◌≡◌, ◌⊎◌, ◌↔◌, ℕ, suc, ◌≤◌, ◌<◌, List}
 use Rattle.std.proofs.Math.Path.{refl}
 use Rattle.std.proofs.Common.{sym, ap, subst, ◌∙◌, inl, inr, arith}
-use Rattle.sheet.specs.Outcomes.{Outcome, refusal, result, followed_by, lowest, number_of}
+use Rattle.sheet.specs.Outcomes.{Outcome, refusal, result, followed_by, number_of}
 use Rattle.sheet.specs.Memory.{memory_bytes}
 use Rattle.sheet.specs.Rows.{row_bytes}
 use Rattle.sheet.specs.Laws.Outcomes.{same-result}

@@ -20,11 +20,11 @@ use Rattle.sheet.specs.Reads.{wires_read}
 use Rattle.kernel.specs.Instant.{value}
 use Rattle.kernel.specs.Systems as System
 use Rattle.kernel.specs.Systems.{Full}
-use Rattle.kernel.specs.Instants.{reads_at, values, round, rounds, finished}
+use Rattle.kernel.specs.Instants.{reads_at, values, round, finished}
 use Rattle.kernel.specs.Schedules.{entry_at, too_early, schedule_of, pass}
 use Rattle.kernel.specs.Calls.{Given, given_of, accepted_of, scheduled, scheduled_answer}
 use Rattle.kernel.specs.Calls.{scheduled_call}
-use Rattle.kernel.specs.Cases.{all, holds, crossed_sheet}
+use Rattle.kernel.specs.Cases.{crossed_sheet}
 use Rattle.kernel.specs.Laws.Order.{not_known}
 use Rattle.kernel.specs.Laws.Given.{given_by}
 use Rattle.kernel.specs.Laws.Schedules.{Passed, schedule_passed, pass-full-of, pass-finished}

@@ -1,6 +1,6 @@
 -- Numbers below n that are all different are at most n, and where there are n of them each number below n is met.
 use Rattle.std.specs.Prelude.{◌≡◌, refl, ◌⊎◌, Bool, true, false, cond, ℕ, zero, suc, ◌≤◌, ◌<◌, eqb, ltb}
-use Rattle.std.proofs.Common.{sym, ap, ◌∙◌, inl, inr, zero-le, arith, eqb-true, eq-eqb, ltb-true, ltb-false, lt-ltb}
+use Rattle.std.proofs.Common.{sym, ap, ◌∙◌, inl, inr, zero-le, arith, eqb-true, eq-eqb, ltb-true, lt-ltb}
 use Rattle.std.proofs.lemmas.Bool.{eqb-false}
 use Rattle.sheet.specs.Outcomes.{lowest}
 use Rattle.sheet.specs.Laws.Lowest.{lowest-below, lowest-passes}

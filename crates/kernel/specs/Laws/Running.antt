@@ -2,7 +2,7 @@
 use Rattle.std.specs.Prelude.{ℕ, suc, ◌+◌, ◌≡◌, refl, Bool, true, false, ◌||◌, cond, List, [], ◌∷◌, ◌++◌, length, take, drop}
 use Rattle.std.proofs.Common.{sym, ap, ◌∙◌, append-nil, append_assoc, add-zero, add-one, arith, length-append, take-append-drop, take_at, drop_at, drop-drop}
 use Rattle.sheet.specs.Data.{ValueType, boolean, is_kept, wire_type}
-use Rattle.sheet.specs.Expressions.{Expression, fby, kept}
+use Rattle.sheet.specs.Expressions.{Expression, kept}
 use Rattle.sheet.specs.Expressions.{Alternatives}
 use Rattle.sheet.specs.Expressions.{switch_forms, cell_forms, forms_in, cell_count, count_in}
 use Rattle.sheet.specs.Sheets.{wire_tree, own_cells}

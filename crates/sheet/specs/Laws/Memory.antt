@@ -111,16 +111,22 @@ pub word_below : (t : ValueType) (d : Datum) → IsOf t d → word_of d < 429496
 word_below boolean (Boolean true) h = omega arith
 word_below boolean (Boolean false) h = omega arith
 word_below number (Number z) h = (Fits-of_z h).fits
+word_below boolean (Number z) h = elim h [ ]
+word_below number (Boolean _) h = elim h [ ]
 
 pub word_stands : (t : ValueType) (d : Datum) → IsOf t d → stands_for t (word_of d) ≡ true
 word_stands boolean (Boolean true) h = refl
 word_stands boolean (Boolean false) h = refl
 word_stands number (Number z) h = refl
+word_stands boolean (Number z) h = elim h [ ]
+word_stands number (Boolean _) h = elim h [ ]
 
 pub word_back : (t : ValueType) (d : Datum) → IsOf t d → datum_of t (word_of d) ≡ d
 word_back boolean (Boolean true) h = refl
 word_back boolean (Boolean false) h = refl
 word_back number (Number z) h = ap Number (to_z-of_z h)
+word_back boolean (Number z) h = elim h [ ]
+word_back number (Boolean _) h = elim h [ ]
 
 -- Behind the bytes of a cell the others stand one number further on.
 module _ (c : Cell) (rest : List ℕ) where

@@ -39,6 +39,8 @@ datum-is number word = word_fits word
 pub own-type : (t : ValueType) (d : Datum) → IsOf t d → type_of d ≡ t
 own-type boolean (Boolean b) h = refl
 own-type number (Number z) h = refl
+own-type boolean (Number z) h = elim h [ ]
+own-type number (Boolean b) h = elim h [ ]
 
 -- the type of what is named, an input or, where `plain` takes the mark of kept wires off, a wire
 pub type-of-named : (plain : ℕ → ℕ) (bytes : List ℕ) (i : ℕ) {t : ℕ} → i < length bytes → plain (get_or bytes i 0) ≡ t

@@ -1,0 +1,7 @@
+-- `due_marks` meets its contract: both sets joined, and of that the first sheets.
+use Rattle.board_marks.proofs.Bytes.{due-just}
+use Rattle.board_marks.proofs.due_marks.Goals as goal
+
+pub returns : goal.returns
+returns c =
+    due-just _ _ _ _ _ _ c.joined-all.ensures c.first.ensures c.common.ensures

@@ -1,0 +1,10 @@
+-- `short_line` puts the word and the newline at the start.
+use native.Mathlib.Omega.{arith}
+use Rattle.lines.specs.Lines.{short_line}
+use Rattle.lines.proofs.Holding.{held}
+use Rattle.lines.proofs.short_line.Goals as goal
+
+pub returns : goal.returns
+unfolding short_line
+returns c =
+    held c.put_bytes.ensures (omega arith)

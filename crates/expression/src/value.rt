@@ -13,7 +13,7 @@ use wires::Wires;
 
 // The value of the expression at `at`, whose first cell has the number `cell`. One without operands is valued without a call of
 // its own: these are half of all.
-#[cycle(value_by_kind_value_conditional_value_expression_value_held_value_machine_value_operation_value_present_value_reset)]
+#[cycle(valuing)]
 pub fn value_expression(
     sheet: &[u8],
     memory: &&[u8],
@@ -46,7 +46,7 @@ fn unknown() -> Valued
 }
 
 // The value of an operation on one or two operands, kinds 4 to 11.
-#[cycle(value_by_kind_value_conditional_value_expression_value_held_value_machine_value_operation_value_present_value_reset)]
+#[cycle(valuing)]
 fn value_operation(
     sheet: &[u8],
     memory: &&[u8],
@@ -88,7 +88,7 @@ fn value_operation(
 }
 
 // The value of an if, kind 12: all three operands are valued.
-#[cycle(value_by_kind_value_conditional_value_expression_value_held_value_machine_value_operation_value_present_value_reset)]
+#[cycle(valuing)]
 fn value_conditional(
     sheet: &[u8],
     memory: &&[u8],
@@ -135,7 +135,7 @@ fn value_conditional(
 
 // The value of a present, kind 13: the arm that the condition takes is valued, and the other passed over. An arm is seldom a leaf,
 // and goes by its kind at once.
-#[cycle(value_by_kind_value_conditional_value_expression_value_held_value_machine_value_operation_value_present_value_reset)]
+#[cycle(valuing)]
 fn value_present(
     sheet: &[u8],
     memory: &&[u8],
@@ -185,7 +185,7 @@ fn value_present(
 }
 
 // The value of a reset, kind 14: a true condition makes its operand fresh.
-#[cycle(value_by_kind_value_conditional_value_expression_value_held_value_machine_value_operation_value_present_value_reset)]
+#[cycle(valuing)]
 fn value_reset(
     sheet: &[u8],
     memory: &&[u8],
@@ -248,7 +248,7 @@ fn value_pre(
 
 // The value of a machine, kind 19: the condition of the current state is asked, and by it a body runs, which is fresh where its state is
 // entered; the other two operands are passed over.
-#[cycle(value_by_kind_value_conditional_value_expression_value_held_value_machine_value_operation_value_present_value_reset)]
+#[cycle(valuing)]
 fn value_machine(
     sheet: &[u8],
     memory: &&[u8],
@@ -294,7 +294,7 @@ fn value_machine(
 
 // The value of an fby, kind 17: its cell's where it sees it started, and else its left operand's. Kind 18, which gives the cell of the kept wire that
 // it names, and a machine are told from it by one test here, since one more step in `value_by_kind` would keep the fby from being folded into it.
-#[cycle(value_by_kind_value_conditional_value_expression_value_held_value_machine_value_operation_value_present_value_reset)]
+#[cycle(valuing)]
 fn value_held(
     sheet: &[u8],
     memory: &&[u8],
@@ -342,7 +342,7 @@ fn value_held(
 }
 
 // The value of an expression by its kind.
-#[cycle(value_by_kind_value_conditional_value_expression_value_held_value_machine_value_operation_value_present_value_reset)]
+#[cycle(valuing)]
 fn value_by_kind(
     sheet: &[u8],
     memory: &&[u8],

@@ -9,4 +9,4 @@ use mir.Facts.{to_z-of_z}
 use borrow.Author.Rules.{sfits_of}
 
 pub carried : {z a : ℤ} → mag z < 2 ^ 31 → z ≡ a → to_z w32 (of_z w32 z) ≡ a
-carried f e = to_z-of_z (sfits_of f) ∙ e
+carried f e = to_z-of_z {w = w32} (sfits_of f) ∙ e

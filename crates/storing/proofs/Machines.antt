@@ -18,7 +18,7 @@ use Rattle.sheet.specs.declared.Cell.{Cell}
 use Rattle.sheet.specs.declared.Cell.TheVariants.{Started}
 use Rattle.sheet_walk.specs.declared.skip.Skipped.{Skipped}
 use Rattle.kernel.specs.Values.{truth, is_true}
-use Rattle.kernel.specs.Instant.{held, value, stored}
+use Rattle.kernel.specs.Instant.{held, stored}
 use Rattle.kernel.specs.Laws.Switches.{machine-stored as machine-equation}
 use Rattle.kernel.specs.declared.Value.{Value}
 use Rattle.kernel.specs.declared.Value.TheVariants.{Known}

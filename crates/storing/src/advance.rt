@@ -21,7 +21,7 @@ pub struct Advanced {
 
 // Advances the expression at `at`, of which the type byte `asked` is asked and whose first cell has the number `cell`. One without
 // operands has no cells, and is valued without a call of its own.
-#[cycle(advance_by_kind_advance_conditional_advance_expression_advance_held_advance_machine_advance_operation_advance_pre_advance_present_advance_reset)]
+#[cycle(advancing)]
 pub fn advance_expression(
     sheet: &[u8],
     memory: &mut [u8],
@@ -71,7 +71,7 @@ fn advance_last(sheet: &[u8], words: &[u32; 144], at: usize, cell: usize) -> Adv
 }
 
 // An operation on one or two operands, kinds 4 to 11, which advance in turn.
-#[cycle(advance_by_kind_advance_conditional_advance_expression_advance_held_advance_machine_advance_operation_advance_pre_advance_present_advance_reset)]
+#[cycle(advancing)]
 fn advance_operation(
     sheet: &[u8],
     memory: &mut [u8],
@@ -110,7 +110,7 @@ fn advance_operation(
 }
 
 // An if, kind 12: all three operands advance.
-#[cycle(advance_by_kind_advance_conditional_advance_expression_advance_held_advance_machine_advance_operation_advance_pre_advance_present_advance_reset)]
+#[cycle(advancing)]
 fn advance_conditional(
     sheet: &[u8],
     memory: &mut [u8],
@@ -150,7 +150,7 @@ fn advance_conditional(
 }
 
 // A present, kind 13: the condition's arm advances, and the other rests.
-#[cycle(advance_by_kind_advance_conditional_advance_expression_advance_held_advance_machine_advance_operation_advance_pre_advance_present_advance_reset)]
+#[cycle(advancing)]
 fn advance_present(
     sheet: &[u8],
     memory: &mut [u8],
@@ -194,7 +194,7 @@ fn advance_present(
 }
 
 // A reset, kind 14: a true condition makes its operand fresh before that advances.
-#[cycle(advance_by_kind_advance_conditional_advance_expression_advance_held_advance_machine_advance_operation_advance_pre_advance_present_advance_reset)]
+#[cycle(advancing)]
 fn advance_reset(
     sheet: &[u8],
     memory: &mut [u8],
@@ -227,7 +227,7 @@ fn advance_reset(
 }
 
 // A pre, kinds 15 and 16: its cell is read, then its operand advances, whose value the cell gets.
-#[cycle(advance_by_kind_advance_conditional_advance_expression_advance_held_advance_machine_advance_operation_advance_pre_advance_present_advance_reset)]
+#[cycle(advancing)]
 fn advance_pre(
     sheet: &[u8],
     memory: &mut [u8],
@@ -262,7 +262,7 @@ fn advance_pre(
 
 // A machine, kind 19: the condition of the current state advances, and by it a body, which is fresh where its state is entered; the other two
 // operands rest. Its cell, which is read first, gets the state whose body ran.
-#[cycle(advance_by_kind_advance_conditional_advance_expression_advance_held_advance_machine_advance_operation_advance_pre_advance_present_advance_reset)]
+#[cycle(advancing)]
 fn advance_machine(
     sheet: &[u8],
     memory: &mut [u8],
@@ -303,7 +303,7 @@ fn advance_machine(
 
 // An fby, kind 17: its cell is read, then both its operands advance, and the cell gets the right one's value. Kind 18, which owns no cell, and a
 // machine are told from it here, as in `value_held`.
-#[cycle(advance_by_kind_advance_conditional_advance_expression_advance_held_advance_machine_advance_operation_advance_pre_advance_present_advance_reset)]
+#[cycle(advancing)]
 fn advance_held(
     sheet: &[u8],
     memory: &mut [u8],
@@ -347,7 +347,7 @@ fn advance_held(
 }
 
 // An expression by its kind.
-#[cycle(advance_by_kind_advance_conditional_advance_expression_advance_held_advance_machine_advance_operation_advance_pre_advance_present_advance_reset)]
+#[cycle(advancing)]
 fn advance_by_kind(
     sheet: &[u8],
     memory: &mut [u8],

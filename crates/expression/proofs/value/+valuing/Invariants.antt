@@ -1,0 +1,28 @@
+-- The functions that value an expression meet their contracts. The level falls from an expression to its operands; an expression
+-- goes by its kind at the same level, if it is no leaf.
+use Prim.Native.Nat.{◌+◌, ◌*◌}
+use Rattle.expression.proofs.value.+valuing.Given as goal
+
+abbrev pub decreases-value_by_kind : goal.decreases-value_by_kind
+decreases-value_by_kind l = 4 * l.level + 2
+
+abbrev pub decreases-value_conditional : goal.decreases-value_conditional
+decreases-value_conditional l = 4 * l.level + 1
+
+abbrev pub decreases-value_expression : goal.decreases-value_expression
+decreases-value_expression l = 4 * l.level + 3
+
+abbrev pub decreases-value_held : goal.decreases-value_held
+decreases-value_held l = 4 * l.level + 1
+
+abbrev pub decreases-value_machine : goal.decreases-value_machine
+decreases-value_machine l = 4 * l.level
+
+abbrev pub decreases-value_operation : goal.decreases-value_operation
+decreases-value_operation l = 4 * l.level + 1
+
+abbrev pub decreases-value_present : goal.decreases-value_present
+decreases-value_present l = 4 * l.level + 1
+
+abbrev pub decreases-value_reset : goal.decreases-value_reset
+decreases-value_reset l = 4 * l.level + 1

@@ -1,0 +1,57 @@
+-- `restart` meets its contract. The loop's invariant: the cells that are still ahead, put from `count` on, make what the whole makes.
+use mathlib.Core.Path.{refl, ◌∙◌}
+use native.Mathlib.Omega.{arith}
+use Rattle.storing.proofs.Anew.{step, begun, ended}
+use Rattle.storing.proofs.rest.restart.Goals as goal
+
+pub loop-pending-init : goal.loop-pending-init
+loop-pending-init c = (refl, λ p. begun p.place _)
+
+pub bounds-sheet-next : goal.bounds-sheet-next
+bounds-sheet-next c = omega (arith, (step c.loop-pending-test.true (c.loop-pending.invariant.1 c.requires)).met.ends)
+
+pub put_own-requires : goal.put_own-requires
+put_own-requires c =
+    let s = step c.loop-pending-test.true (c.loop-pending.invariant.1 c.requires) in
+    record {
+      whole = s.met;
+      at_in_bounds = omega (arith, s.room, c.requires.fits, c.loop-pending.invariant.0);
+    }
+
+pub operands-requires : goal.operands-requires
+operands-requires c = (step c.loop-pending-test.true (c.loop-pending.invariant.1 c.requires)).met.kind
+
+pub overflow_add-pending : goal.overflow_add-pending
+overflow_add-pending c = omega (arith, (step c.loop-pending-test.true (c.loop-pending.invariant.1 c.requires)).fits, c.operands.ensures)
+
+pub cells-count-requires : goal.cells-count-requires
+cells-count-requires c = (step c.loop-pending-test.true (c.loop-pending.invariant.1 c.requires)).met.kind
+
+pub overflow_add-count : goal.overflow_add-count
+overflow_add-count c = omega (arith, (step c.loop-pending-test.true (c.loop-pending.invariant.1 c.requires)).cells, c.cells-count.ensures)
+
+pub body-requires : goal.body-requires
+body-requires c = (step c.loop-pending-test.true (c.loop-pending.invariant.1 c.requires)).met.kind
+
+pub overflow_add-next : goal.overflow_add-next
+overflow_add-next c = omega (arith, (step c.loop-pending-test.true (c.loop-pending.invariant.1 c.requires)).met.ends, c.body.ensures)
+
+pub overflow_add-next-in-loop-pending : goal.overflow_add-next-in-loop-pending
+overflow_add-next-in-loop-pending c = omega (arith, (step c.loop-pending-test.true (c.loop-pending.invariant.1 c.requires)).met.ends, c.body.ensures)
+
+pub loop-pending-smaller : goal.loop-pending-smaller
+loop-pending-smaller c = omega (arith, (step c.loop-pending-test.true (c.loop-pending.invariant.1 c.requires)).met.ends, c.body.ensures)
+
+pub loop-pending-preserved : goal.loop-pending-preserved
+loop-pending-preserved c = (
+  c.put_own.auto.memory ∙ c.loop-pending.invariant.0,
+  λ p.
+      rw (c.body.ensures, c.cells-count.ensures, c.operands.ensures, c.put_own.ensures)
+      (step c.loop-pending-test.true (c.loop-pending.invariant.1 p)).rest,
+)
+
+pub shape_of-memory : goal.shape_of-memory
+shape_of-memory c = c.loop-pending.invariant.0
+
+pub returns : goal.returns
+returns c = λ p. ended p.place c.loop-pending-test.false (c.loop-pending.invariant.1 p)

@@ -19,7 +19,7 @@ use Rattle.sheet.specs.Kinds.{kind_count, owned_of, count_of, read_count_of, own
 use Rattle.sheet.specs.Lists.{among}
 use Rattle.sheet.specs.Reads.{wires_read, all_read, wires_named}
 use Rattle.sheet.specs.Readings.{Reading, got, erased, read_each, named_at, body_at, body_from, own_of, read_expression, Whole}
-use Rattle.sheet.specs.Sheets.{forms_of, before}
+use Rattle.sheet.specs.Sheets.{forms_of}
 use Rattle.sheet.specs.Memory.{type_byte, form_byte, start_memory, own_cell}
 use Rattle.sheet.specs.Typing.{Pairwise, done, ◌then◌}
 use Rattle.sheet.specs.Laws.Lists.{among-append}

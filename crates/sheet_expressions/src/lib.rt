@@ -27,7 +27,7 @@ fn either(test: bool, yes: u64, no: u64) -> u64
 
 // The operands of an expression of this kind, in order, from `at` on; the first that is refused ends the reading. What is read by one
 // that is not read within the instant does not count. The sheet is behind one more reference, so that a call copies no slice.
-#[cycle(check_node_check_one_check_operand_check_operands)]
+#[cycle(checking)]
 fn check_operands(
     sheet: &&[u8],
     names: &[u64; 10],
@@ -72,7 +72,7 @@ fn check_operands(
 }
 
 // The expression at `at`, which has operands: its own bytes, then they.
-#[cycle(check_node_check_one_check_operand_check_operands)]
+#[cycle(checking)]
 fn check_node(
     sheet: &&[u8],
     names: &[u64; 10],
@@ -104,7 +104,7 @@ fn check_node(
 
 // The expression at `at` behind `count` cells: 2, 6 and 8, then what its kind asks. Kind 18 and what is above it, a machine or no kind at all,
 // are told by one test from the other kinds, so that these take no test more.
-#[cycle(check_node_check_one_check_operand_check_operands)]
+#[cycle(checking)]
 fn check_one(
     sheet: &&[u8],
     names: &[u64; 10],
@@ -147,7 +147,7 @@ fn check_one(
 }
 
 // The expression of an operand. A leaf is checked without a call of its own: these are half of all.
-#[cycle(check_node_check_one_check_operand_check_operands)]
+#[cycle(checking)]
 fn check_operand(
     sheet: &&[u8],
     names: &[u64; 10],

@@ -1,0 +1,159 @@
+-- `check_wires` meets its contract. The loop's invariant: the wires passed are drawn, what is left of them reads as all of them do, and the
+-- kept wires ahead are those that are left.
+use Prim.Native.Nat.{ℕ, ◌+◌, ◌-◌, ◌<◌, ◌≤◌}
+use mathlib.Core.Path.{◌≡◌, refl, sym, ◌∙◌}
+use mathlib.Core.List.{List}
+use native.Mathlib.Omega.{arith}
+use lib.ListN.{length, get_or, drop, length-set, drop_of_length-le}
+use Rattle.sheet.specs.Readings.{read_each}
+use Rattle.sheet.specs.Sheets.{kept_count, own_cells, read_wire, read_wires}
+use Rattle.sheet.specs.Laws.Wires.{kept-few}
+use Rattle.sheet_names.specs.Naming.{Naming}
+use Rattle.sheet_names.proofs.Numbers.{kept_from}
+use Rattle.sheet_own.specs.Own.{Lookup}
+use Rattle.sheet_expressions.specs.Map.{run_of}
+use Rattle.sheet_expressions.proofs.Steps.{each_good, each-refused, wire-erased}
+use Rattle.sheet_expressions.proofs.Noting.{extent}
+use Rattle.sheet_expressions.proofs.Drawing.{run-refused, nothing-drawn, wire-drawn, all-drawn}
+use Rattle.sheet_expressions.proofs.check_wires.Goals as goal
+
+-- the numbers in which names are looked up
+abbrev lookup : {inputs types names : List ℕ} → Naming inputs types names → Lookup names
+lookup {inputs} {types} naming = record { inputs = inputs; wires = types; naming = naming }
+
+-- behind the wire's own cell
+later : (types : List ℕ) {w count ahead after : ℕ} → w < length types → ahead ≡ kept_count (drop w types) → ahead ≤ count
+    → after ≡ ahead - own_cells (get_or types w 0) → (after ≡ kept_count (drop (w + 1) types)) × (after ≤ count)
+later types more same room e = (omega (arith, kept_from types _ more), omega arith)
+
+pub loop-w-init : goal.loop-w-init
+unfolding read_wires
+loop-w-init c =
+    let start = c in
+    let a = start.args in
+    let p = start.requires in
+    let all = c.ahead-count.ensures ∙ p.names_value in (
+      omega arith,
+      p.wires_lookup.3,
+      omega (arith, kept-few a.types.now, p.wires_lookup.1.few),
+      refl,
+      refl,
+      refl,
+      p.names_value,
+      omega (arith, c.ahead-count.ensures),
+      λ inputs naming. naming,
+      λ l. (
+        rw all,
+        λ trees n k each. nothing-drawn (run_of l.inputs a.types.now a.sheet.now.now a.at trees n k each) all,
+      ),
+    )
+
+pub note_kept-requires : goal.note_kept-requires
+note_kept-requires c =
+    let turn = c in
+    let o = turn.loop-w in
+    let types = turn.args.types.now in
+    (omega (arith, o.invariant.6, kept_from types o.w turn.loop-w-test.true), o.invariant.7, o.invariant.2)
+
+pub overflow_sub-first : goal.overflow_sub-first
+overflow_sub-first c = omega (arith, c.ahead.ensures, (later c.args.types.now c.loop-w-test.true c.loop-w.invariant.6 c.loop-w.invariant.7 c.note_kept.ensures.ahead).1)
+
+pub overflow_cast-places : goal.overflow_cast-places
+overflow_cast-places c =
+    let start = c in
+    omega (arith, c.loop-w.invariant.1, start.requires.wires_lookup.2)
+
+pub bounds-places-w : goal.bounds-places-w
+bounds-places-w c =
+    omega (arith, c.requires.wires_lookup.1.few)
+
+pub overflow_cast-firsts : goal.overflow_cast-firsts
+overflow_cast-firsts c = omega (arith, c.loop-w.invariant.2)
+
+pub bounds-firsts-w : goal.bounds-firsts-w
+bounds-firsts-w c =
+    omega (arith, c.requires.wires_lookup.1.few)
+
+pub check_whole-one-requires : goal.check_whole-one-requires
+check_whole-one-requires c =
+    let noted = c in
+    let start = c in
+    let p = start.requires.wires_lookup in
+    let o = noted.loop-w in (
+      lookup (noted.note_kept.ensures.naming _ _ (o.invariant.8 _ p.0.naming)),
+      omega arith,
+      o.invariant.2,
+      p.2,
+      (later c.args.types.now c.loop-w-test.true c.loop-w.invariant.6 c.loop-w.invariant.7 c.note_kept.ensures.ahead).1,
+    )
+
+pub returns-in_default : goal.returns-in_default
+returns-in_default c = λ l.
+    let noted = c in
+    let turn = c in
+    let a = turn.args in
+    let o = turn.loop-w in
+    let e = c.in_default.is in
+    let one = c.check_whole-one.ensures (lookup (noted.note_kept.ensures.naming _ _ (o.invariant.8 _ l.naming))) in
+    let refused = e ∙ each-refused (read_wire l.inputs a.types.now a.sheet.now.now) a.types.now o.w o.next
+    o.count turn.loop-w-test.true
+    (sym (wire-erased l.inputs a.types.now a.sheet.now.now _ o.next o.count) ∙ sym one.answers ∙ e)
+    ∙ (o.invariant.9 l).0 in
+    record { answers = refused; drawn = run-refused (sym e ∙ refused) }
+
+pub bounds-reads-w : goal.bounds-reads-w
+bounds-reads-w c =
+    let start = c in
+    omega (arith, start.requires.wires_lookup.1.few)
+
+pub loop-w-preserved : goal.loop-w-preserved
+loop-w-preserved c =
+    let noted = c in
+    let turn = c in
+    let start = c in
+    let a = start.args in
+    let p = start.requires.wires_lookup in
+    let o = turn.loop-w in
+    let more = turn.loop-w-test.true in
+    let e = c.in-Got.is in
+    let ahead = c.ahead.ensures in
+    let naming : (inputs : List ℕ) → Naming inputs a.types.now a.names.now → Naming inputs a.types.now _ =
+    λ inputs n. noted.note_kept.ensures.naming inputs a.types.now (o.invariant.8 inputs n) in
+    let behind = (extent p.0.inputs a.types.now a.sheet.now.now 16 _ o.next o.count
+    (c.check_whole-one.ensures (lookup (naming _ p.0.naming))) e).1 in
+    let few = p.1.few in (
+      omega arith,
+      behind.within,
+      behind.limited,
+      simp length-set o.invariant.3,
+      simp length-set o.invariant.4,
+      simp length-set o.invariant.5,
+      (later c.args.types.now c.loop-w-test.true c.loop-w.invariant.6 c.loop-w.invariant.7 c.note_kept.ensures.ahead).0,
+      omega (arith, (later c.args.types.now c.loop-w-test.true c.loop-w.invariant.6 c.loop-w.invariant.7 c.note_kept.ensures.ahead).1, behind.counted),
+      naming,
+      λ l. let one = c.check_whole-one.ensures (lookup (naming _ l.naming)) in (
+        each_good (read_wire l.inputs a.types.now a.sheet.now.now) a.types.now o.w o.next o.count more
+            (sym (wire-erased l.inputs a.types.now a.sheet.now.now _ o.next o.count) ∙ sym one.answers ∙ e)
+            ∙ (o.invariant.9 l).0,
+        λ trees n k each. rw ahead (wire-drawn (run_of l.inputs a.types.now a.sheet.now.now a.at trees n k each) more
+            (omega (arith, p.4.for_places, o.invariant.3)) (omega (arith, p.4.for_firsts, o.invariant.4))
+            (omega (arith, p.4.for_reads, o.invariant.5)) o.invariant.6 (later c.args.types.now c.loop-w-test.true c.loop-w.invariant.6 c.loop-w.invariant.7 c.note_kept.ensures.ahead).0 ((o.invariant.9 l).1 trees n k each)
+            (noted.note_kept.ensures.entered a.sheet.now.now) e
+            c.none-none.ensures one),
+      ),
+    )
+
+pub returns : goal.returns
+unfolding read_each
+returns c = λ l.
+    let start = c in
+    let a = start.args in
+    let p = start.requires.wires_lookup in
+    let o = c.loop-w in
+    record {
+      answers = rw (drop_of_length-le a.types.now c.loop-w-test.false) at (o.invariant.9 l).0;
+      drawn = record {
+        maps = λ trees n k each. all-drawn (run_of l.inputs a.types.now a.sheet.now.now a.at trees n k each) p.1.few
+            c.loop-w-test.false p.4.for_cells (omega (arith, p.4.for_reads, o.invariant.5)) ((o.invariant.9 l).1 trees n k each);
+      };
+    }

@@ -1,0 +1,92 @@
+-- `check_leaf` meets its contract: the tests of a leaf's own bytes, looked up by its kind.
+use Prim.Native.Nat.{◌+◌}
+use mathlib.Core.Path.{sym, ◌∙◌}
+use native.Mathlib.Omega.{arith}
+use Rattle.sheet_own.proofs.Nodes.{leaf-long, leaf-refused, leaf-cut, leaf_wrong, leaf-other, leaf_good, wire-below, joins-named}
+use Rattle.sheet_own.proofs.check_leaf.Goals as goal
+
+pub returns-then-sheet-at : goal.returns-then-sheet-at
+returns-then-sheet-at c l =
+    let start = c in
+    let a = start.args in
+    let p = start.requires in
+    leaf-refused (leaf-cut l.inputs l.wires a.names.now a.sheet.now a.asked a.at a.count l.naming
+    p.1 p.2 p.3 p.4
+    (omega (arith, c.shared_slice_known-1.given (a.at + 1)))
+    (omega (arith, c.body-body.ensures, c.if-sheet-at.true)))
+    c.refused.ensures
+
+pub bounds-sheet-at-2 : goal.bounds-sheet-at-2
+bounds-sheet-at-2 c =
+    omega (arith, c.body-body.ensures, c.if-sheet-at.false, leaf-long _ c.requires.2)
+
+pub overflow_cast-named : goal.overflow_cast-named
+overflow_cast-named c = omega (arith, c.shared_slice_known-3-1.given (c.args.at + 1))
+
+pub returns-then-limit-named : goal.returns-then-limit-named
+returns-then-limit-named c l =
+    let start = c in
+    let a = start.args in
+    let p = start.requires in
+    leaf-refused (leaf_wrong l.inputs l.wires a.names.now a.sheet.now a.asked a.at a.count l.naming
+    p.1 p.2 p.3 p.4
+    (omega (arith, c.shared_slice_known-1.given (a.at + 1)))
+    (omega (arith, c.body-body.ensures, c.if-sheet-at.false))
+    (omega (arith, c.limit.ensures, c.if-limit-named.true)))
+    c.refused-then-limit-named.ensures
+
+pub returns-then-type_of-asked : goal.returns-then-type_of-asked
+returns-then-type_of-asked c l =
+    let start = c in
+    let a = start.args in
+    let p = start.requires in
+    leaf-refused (leaf-other l.inputs l.wires a.names.now a.sheet.now a.asked a.at a.count l.naming
+    p.1 p.2 p.3 p.4
+    (omega (arith, c.shared_slice_known-1.given (a.at + 1)))
+    (omega (
+      arith,
+      c.body-body.ensures,
+      c.if-sheet-at.false,
+    ))
+    (omega (arith, c.limit.ensures, c.if-limit-named.false))
+    (λ e. c.if-type_of-asked.true (c.type_of.ensures ∙ e)))
+    c.refused-then-type_of-asked.ensures
+
+pub with_named-grown-requires : goal.with_named-grown-requires
+with_named-grown-requires c =
+    let start = c in
+    let a = start.args in
+    let p = start.requires in
+    let l = start.requires.0 in
+    wire-below l.inputs l.wires a.names.now a.sheet.now a.asked a.at a.count l.naming p.1 p.2 p.3 p.4
+    (omega (arith, c.shared_slice_known-1.given (a.at + 1)))
+    (omega (
+      arith,
+      c.body-body.ensures,
+      c.if-sheet-at.false,
+    ))
+    (omega (arith, c.limit.ensures, c.if-limit-named.false))
+
+pub returns : goal.returns
+returns c l =
+    let start = c in
+    let a = start.args in
+    let p = start.requires in
+    let good = leaf_good l.inputs l.wires a.names.now a.sheet.now a.asked a.at a.count l.naming
+    p.1 p.2 p.3 p.4
+    (omega (
+      arith,
+      c.shared_slice_known-1.given
+          (a.at + 1),
+    )) (omega (
+      arith,
+      c.body-body.ensures,
+      c.if-sheet-at.false,
+    ))
+    (omega (arith, c.limit.ensures, c.if-limit-named.false))
+    (sym c.type_of.ensures ∙ c.if-type_of-asked.false) in
+    record {
+      answers = rw c.body-body.ensures good;
+      reads =
+          λ n k e. joins-named a.sheet.now a.at c.with_named-grown.ensures;
+    }

@@ -28,6 +28,7 @@ words-length (w ∷ ws) words = omega (arith, words-length ws words)
 
 word_held : {b : Bool} {word : ℕ} {v : Value} → Held b word v → IsKnown v → word ≡ word_of (datum_in v)
 word_held (held e) known = e
+word_held {word = word} Rattle.rounds.specs.Running.unheld x5 = elim x5 [ ]
 
 row-of-words : {n bits : ℕ} {row words : List ℕ} {values : List Value} → Holds n row bits words values → Full n values → (outputs : List ℕ)
     → Below n outputs → words_of outputs words ≡ row_bytes (map (λ w. datum_in (value_at values w)) outputs)

@@ -1,0 +1,5 @@
+-- `started` meets its contract.
+use Rattle.sheet_start.proofs.started.Goals as goal
+
+pub returns : goal.returns
+returns c = rw c.if-filled.false

@@ -1,12 +1,12 @@
 // The main loop of a meter: one board of a tariff, a relay and a display sheet, served tick after tick, with a line for each tick.
-// Rests on `tick` for the tick, on `sheet_start` for each sheet's starting memory, on `text` and `io` for bytes and lines.
+// Rests on `tick` for the tick, on `sheet_start` for each sheet's starting memory, on `text` for bytes, and on `std` for the output.
 #![tactic(auto)]
 
 ghost use Rattle.std.specs.Prelude.{◌≡◌, ◌≤◌, ◌<◌, length};
 
 use board::{Standing, Ticked};
-use libc::STDOUT_FILENO;
 use sheet::refusals;
+use std::io;
 use text::put_bytes;
 
 // A row for each tick: due marks and restart marks, 1 for the tariff, 2 for the relay and 4 for the display, and then all inputs
@@ -29,7 +29,8 @@ const TICKS: [[u8; 8]; 14] = [
 ];
 
 // Starts a new board, and makes its ticks, each with the stored marks and the number that the one before handed back.
-fn main() {
+// A write that fails ends it with that error.
+fn main(rt: HostRuntime) -> io::Result<()> {
     let mut board = [0u8; 175];
     let mut memory = [0u8; 40];
     let mut output = [0u8; 32];
@@ -40,8 +41,9 @@ fn main() {
         number: 255,
     };
     for row in 0..14 {
-        standing = make_tick(row, &board, &mut memory, &mut output, standing);
+        standing = make_tick(&rt, row, &board, &mut memory, &mut output, standing)?;
     }
+    Ok(())
 }
 
 // Puts the count and the three sheets, one behind the other: the places are those of the board, and the bytes those of the sheet on one page
@@ -105,12 +107,13 @@ fn start(board: &[u8; 175], memory: &mut [u8])
 
 // Makes the tick of a row, prints its line, and hands back what the next tick is given.
 fn make_tick(
+    rt: &impl Print,
     row: usize,
     board: &[u8; 175],
     memory: &mut [u8; 40],
     output: &mut [u8; 32],
     standing: Standing,
-) -> Standing
+) -> io::Result<Standing>
     requires { row < 14 }
 {
     let given = TICKS[row];
@@ -118,13 +121,13 @@ fn make_tick(
     let ticked = tick::tick(board, memory, &input, output, given[0], given[1], standing);
     let answer = ticked.answer;
     let handed = ticked.standing;
-    print_number(b"tick ", row);
-    print_marks(b" due ", given[0]);
-    print_marks(b" restart ", given[1]);
-    print_answer(answer, output);
-    print_marks(b", waiting ", handed.stored);
-    io::write_all(STDOUT_FILENO, b"\n");
-    handed
+    print_number(rt, b"tick ", row)?;
+    print_marks(rt, b" due ", given[0])?;
+    print_marks(rt, b" restart ", given[1])?;
+    print_answer(rt, answer, output)?;
+    print_marks(rt, b", waiting ", handed.stored)?;
+    rt.write_all(b"\n")?;
+    Ok(handed)
 }
 
 // The input row of a tick: four bytes for each of the six inputs.
@@ -137,54 +140,52 @@ fn input_row(given: &[u8; 8]) -> [u8; 24] {
 }
 
 // Prints what a tick answers.
-fn print_answer(answer: Ticked, output: &[u8])
+fn print_answer(rt: &impl Print, answer: Ticked, output: &[u8]) -> io::Result<()>
     requires { length output.now ≡ 32 }
 {
     match answer {
         Ticked::Refused { why, place } => {
-            print_number(b": refused ", refusals::number(why) as usize);
-            print_number(b" at ", place);
+            print_number(rt, b": refused ", refusals::number(why) as usize)?;
+            print_number(rt, b" at ", place)
         }
-        Ticked::NoneDue => {
-            io::write_all(STDOUT_FILENO, b": none");
-        }
-        Ticked::Served { sheet, rounds } => print_served(sheet, rounds, output),
+        Ticked::NoneDue => rt.write_all(b": none"),
+        Ticked::Served { sheet, rounds } => print_served(rt, sheet, rounds, output),
         Ticked::LeftUnknown { sheet, wire } => {
-            print_number(b": refused 20 in sheet ", sheet);
-            print_number(b" at wire ", wire);
+            print_number(rt, b": refused 20 in sheet ", sheet)?;
+            print_number(rt, b" at wire ", wire)
         }
     }
 }
 
 // Prints the name, the rounds and the outputs of the sheet that was served, from its own part of the output row.
-fn print_served(sheet: usize, rounds: usize, output: &[u8])
+fn print_served(rt: &impl Print, sheet: usize, rounds: usize, output: &[u8]) -> io::Result<()>
     requires { length output.now ≡ 32 }
 {
     match sheet {
-        0 => print_sheet(b": tariff in ", rounds, &output[0..12]),
-        1 => print_sheet(b": relay in ", rounds, &output[12..28]),
-        _ => print_sheet(b": display in ", rounds, &output[28..32]),
+        0 => print_sheet(rt, b": tariff in ", rounds, &output[0..12]),
+        1 => print_sheet(rt, b": relay in ", rounds, &output[12..28]),
+        _ => print_sheet(rt, b": display in ", rounds, &output[28..32]),
     }
 }
 
 // Prints a sheet's name, rounds and outputs.
-fn print_sheet(name: &[u8], rounds: usize, output: &[u8])
+fn print_sheet(rt: &impl Print, name: &[u8], rounds: usize, output: &[u8]) -> io::Result<()>
     requires { length output.now ≤ 16 }
 {
     let mut text = [0u8; 48];
     let size = text::put_numbers(&mut text, 0, output);
-    print_number(name, rounds);
-    io::write_all(STDOUT_FILENO, b" rounds, outputs");
-    io::write_all(STDOUT_FILENO, &text[..size]);
+    print_number(rt, name, rounds)?;
+    rt.write_all(b" rounds, outputs")?;
+    rt.write_all(&text[..size])
 }
 
 // Prints words and marks, as one number.
-fn print_marks(words: &[u8], marks: u8) {
-    print_number(words, marks as usize);
+fn print_marks(rt: &impl Print, words: &[u8], marks: u8) -> io::Result<()> {
+    print_number(rt, words, marks as usize)
 }
 
 // Prints words and a number.
-fn print_number(words: &[u8], number: usize) {
-    io::write_all(STDOUT_FILENO, words);
-    io::print_decimal(STDOUT_FILENO, number as u64);
+fn print_number(rt: &impl Print, words: &[u8], number: usize) -> io::Result<()> {
+    rt.write_all(words)?;
+    rt.print(number)
 }

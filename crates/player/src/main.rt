@@ -1,28 +1,46 @@
 // The player: reads a sheet and its input rows, and prints what document 01 says of them.
-// Rests on `play` for every line, and on `io` for both streams.
+// Rests on `play` for every line, and on `std` for both streams.
 #![tactic(auto)]
 
-use libc::{STDIN_FILENO, STDOUT_FILENO};
-use play::{Next, Stage};
+ghost use Rattle.std.specs.Io.{ReadsAtMost};
 
-// Prints the text of the first 65,536 bytes of standard input.
-fn main() {
+use play::{Next, Stage};
+use std::io;
+use std::io::Read;
+
+// Prints the text of the first 65,536 bytes of standard input. A read or a write that fails ends it with that error.
+fn main(rt: HostRuntime) -> io::Result<()> {
     let mut buffer = [0u8; 65536];
-    let n = io::read_full(STDIN_FILENO, &mut buffer);
-    print(&buffer[..n]);
+    let n = read_full(&mut rt.stdin(), &mut buffer)?;
+    print(&rt, &buffer[..n])
+}
+
+// Reads until the buffer is full or the input ends, and gives how many bytes it put at the start of the buffer.
+fn read_full(input: &mut impl Read, buffer: &mut [u8]) -> io::Result<usize>
+    ensures { ReadsAtMost result buffer.new }
+{
+    let mut done = 0;
+    while done < buffer.len() {
+        let n = input.read(&mut buffer[done..])?;
+        if n == 0 {
+            break;
+        }
+        done += n;
+    }
+    Ok(done)
 }
 
 // Prints the text of an input, line after line.
-fn print(input: &[u8]) {
+fn print(rt: &impl Print, input: &[u8]) -> io::Result<()> {
     let mut memory = [0u8; 320];
     let mut text = [0u8; 256];
     let mut stage = Stage::Begin;
     loop {
         let answer = play::next_line(input, stage, &mut memory, &mut text);
         let Next::Line { size, stage: next } = answer else {
-            return;
+            return Ok(());
         };
-        io::write_all(STDOUT_FILENO, &text[..size]);
+        rt.write_all(&text[..size])?;
         stage = next;
     }
 }

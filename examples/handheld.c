@@ -1,8 +1,8 @@
 /* A handheld at the meter's door: it checks the quarter sheet, starts two memories, runs one day of quarter hours in rounds (as the
  * handheld does) and along a schedule (as the meter does), and compares the totals.
  *
- * Usage, from the top of the repository, once libnuthatchbed.a is built:
- *   cc -std=c11 -Wall -Wextra -Werror -Iinclude examples/handheld.c target/staticlib/libnuthatchbed.a -o target/handheld
+ * Usage, from the top of the repository, once `rt lib` in crates/nuthatchbed has written the archive, and where there is a folder target/:
+ *   cc -std=c11 -Wall -Wextra -Werror -Iinclude examples/handheld.c crates/nuthatchbed/out/libnuthatchbed.a -o target/handheld
  */
 #include "nuthatchbed.h"
 

@@ -1,7 +1,7 @@
 #!/usr/bin/env python3
 """Compares the proved player with the player over the evaluator: on the examples, on edge cases and on random inputs.
 
-Usage: tests/player/player.py EVALUATOR_PLAYER, the program of player.c, after 'rt check player' has written target/bin/player.
+Usage: tests/player/player.py EVALUATOR_PLAYER, the program of player.c, after 'rt ci', or 'rt run' in crates/player, has written crates/player/out/player.
 A mismatch prints the input's bytes. The last line is 'player: N passed, M failed'; the exit status is 0 only where nothing failed.
 """
 import pathlib
@@ -10,7 +10,7 @@ import subprocess
 import sys
 
 ROOT = pathlib.Path(__file__).resolve().parent.parent.parent
-PLAYER = ROOT / 'target/bin/player'
+PLAYER = ROOT / 'crates/player/out/player'
 MOST = 65536
 SEED = 1
 

@@ -54,7 +54,7 @@ fn run_anew(
     match in_rounds::instant(sheet, fresh, input, output) {
         InRounds::Refused { why, place } => InRounds::Refused { why, place },
         InRounds::Accepted { rounds } => {
-            bytes::copy(fresh, memory);
+            memory.copy_from_slice(fresh);
             InRounds::Accepted { rounds }
         }
     }

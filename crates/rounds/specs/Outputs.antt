@@ -10,7 +10,7 @@ use Rattle.kernel.specs.Order.{value_at}
 use Rattle.kernel.specs.Systems.{Full}
 use Rattle.kernel.specs.Instants.{output_row}
 use Rattle.kernel.specs.declared.Value.{Value}
-use Rattle.rounds.specs.Running.{Held, held, Holds}
+use Rattle.rounds.specs.Running.{Held, held, unheld, Holds}
 
 -- each output is a wire below n
 unfoldable pub Below : ℕ → List ℕ → Type 0
@@ -28,7 +28,7 @@ words-length (w ∷ ws) words = omega (arith, words-length ws words)
 
 word_held : {b : Bool} {word : ℕ} {v : Value} → Held b word v → IsKnown v → word ≡ word_of (datum_in v)
 word_held (held e) known = e
-word_held {word = word} Rattle.rounds.specs.Running.unheld x5 = elim x5 [ ]
+word_held unheld h = elim h [ ]
 
 row-of-words : {n bits : ℕ} {row words : List ℕ} {values : List Value} → Holds n row bits words values → Full n values → (outputs : List ℕ)
     → Below n outputs → words_of outputs words ≡ row_bytes (map (λ w. datum_in (value_at values w)) outputs)

@@ -134,7 +134,7 @@ module _ (now : Environment) where
     where
       go : {u v : Value} {ws xs : List ℕ} → WorkedOut u v ws xs → IsKnown u → Every KnownAt ws
       go (all_known h) known = h
-      go {v = v} {ws = ws} {xs = xs} (one-unknown w _ _) x16 = elim x16 [ ]
+      go (one-unknown w _ _) h = elim h [ ]
 
   -- so whether a known condition counts changes nothing for an unknown wire
   pub known-passed : (e : Expression) (fresh : Bool) (k : ℕ) → IsKnown (value now fresh e k) → (w : ℕ)
@@ -251,4 +251,4 @@ awaited-same s t inputs lasts memory grows e fresh k =
 
     go : {u v : Value} {us vs : List ℕ} → Settles u v us vs → IsKnown u → us ≡ vs
     go settled known = refl
-    go {v = v} {us = us} {vs = vs} unsettled x6 = elim x6 [ ]
+    go unsettled h = elim h [ ]

@@ -9,7 +9,7 @@ use Rattle.sheet.specs.Data.{type_of_byte}
 use Rattle.sheet.specs.Expressions.{CellForm}
 use Rattle.sheet.specs.Sheets.{Sheet, sheet_forms}
 use Rattle.sheet.specs.Typing.{Pairwise}
-use Rattle.sheet.specs.Laws.Memory.{pairwise-length, pairwise_append}
+use Rattle.sheet.proofs.Laws.Memory.{pairwise-length, pairwise_append}
 use Rattle.buffers.specs.Tests.{Holds}
 use Rattle.board.specs.Parts.{joined, inputs_in}
 use Rattle.board.specs.Laws.Parts.{joined-more}

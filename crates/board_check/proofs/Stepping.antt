@@ -7,7 +7,7 @@ use lib.ListN.{length, take, drop, length-take, length-drop}
 use lib.Seq.{paste}
 use Rattle.sheet.specs.Sheets.{Sheet, sheet_forms, sheet_of, check_of}
 use Rattle.sheet.specs.Typing.{Pairwise}
-use Rattle.sheet.specs.Laws.Checked.{check_refused, CheckPassed}
+use Rattle.sheet.proofs.Laws.Checked.{check_refused, CheckPassed}
 use Rattle.sheet.specs.Laws.Refusals.{sheet-refused-inside}
 use Rattle.sheet.specs.declared.Refusal.{Refusal}
 use Rattle.sheet.specs.declared.Checked.TheVariants.{Refused}

@@ -10,7 +10,7 @@ use borrow.Author.Tests.{eq-eqb}
 use Rattle.sheet.specs.Outcomes.{Outcome, refusal, result, followed_by, holds_after}
 use Rattle.sheet.specs.Memory.{start_outcome, start_call}
 use Rattle.sheet.specs.Sheets.{sheet_forms}
-use Rattle.sheet.specs.Laws.Typing.{passed_check}
+use Rattle.sheet.proofs.Laws.Typing.{passed_check}
 use Rattle.sheet.specs.declared.Refusal.{Refusal}
 use Rattle.kernel.specs.Calls.{given_of, Accepted as Gives, in_rounds, rounds_answer, rounds_call, Leaves}
 use Rattle.kernel.specs.declared.InRounds.{InRounds}

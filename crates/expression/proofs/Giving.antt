@@ -13,7 +13,7 @@ use Rattle.sheet.specs.Kinds.{body_of, count_of, operands_of}
 use Rattle.sheet.specs.Memory.{cell_word_at, read_cell}
 use Rattle.sheet.specs.Readings.{body_at}
 use Rattle.sheet.specs.Laws.Lists.{never}
-use Rattle.sheet.specs.Laws.Memory.{word_back}
+use Rattle.sheet.proofs.Laws.Memory.{word_back}
 use Rattle.sheet.specs.declared.Datum.{Datum}
 use Rattle.sheet.specs.declared.Cell.TheVariants.{NotStarted, Started}
 use Rattle.sheet.specs.Typing.{unary_type, operand_type}

@@ -12,8 +12,8 @@ use Rattle.sheet.specs.Readings.{got}
 use Rattle.sheet.specs.Outcomes.{refusal, result}
 use Rattle.sheet.specs.Sheets.{Sheet, sheet_forms, before, read_wires}
 use Rattle.sheet.specs.Laws.Headers.{SheetRead, sheet-view, section_good, section-length}
-use Rattle.sheet.specs.Laws.Typing.{passed_check}
-use Rattle.sheet.specs.Laws.Memory.{memory_view}
+use Rattle.sheet.proofs.Laws.Typing.{passed_check}
+use Rattle.sheet.proofs.Laws.Memory.{memory_view}
 use Rattle.sheet_expressions.specs.Map.{StartsAt, EachHoldsJust, Sited, wires_of, run_of}
 use Rattle.kernel.specs.Instants.{reads_at}
 use Rattle.kernel.specs.Laws.Reads.{reads-of-tree}

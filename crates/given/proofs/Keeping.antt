@@ -15,7 +15,7 @@ use Rattle.sheet.specs.Memory.{mark_at, cell_word_at, read_cell}
 use Rattle.sheet.specs.Sheets.{Sheet, sheet_forms, expression_at, cells_before, own_cells, read_wires}
 use Rattle.sheet.specs.Typing.{WellTyped, ValidMemory}
 use Rattle.sheet.specs.Laws.Lists.{never}
-use Rattle.sheet.specs.Laws.Wires.{all-extent}
+use Rattle.sheet.proofs.Laws.Wires.{all-extent}
 use Rattle.sheet.specs.declared.Datum.{Datum}
 use Rattle.sheet.specs.declared.Cell.{Cell}
 use Rattle.sheet.specs.declared.Cell.TheVariants.{NotStarted, Started}

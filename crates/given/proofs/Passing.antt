@@ -10,7 +10,7 @@ use Rattle.sheet.specs.Outcomes.{Outcome, refusal, result, followed_by}
 use Rattle.sheet.specs.Sheets.{Sheet, sheet_forms, sheet_of, check_of}
 use Rattle.sheet.specs.Memory.{memory_of}
 use Rattle.sheet.specs.Rows.{inputs_of}
-use Rattle.sheet.specs.Laws.Checked.{check_refused, CheckPassed}
+use Rattle.sheet.proofs.Laws.Checked.{check_refused, CheckPassed}
 use Rattle.sheet.specs.Laws.Lists.{never}
 use Rattle.sheet.specs.declared.Datum.{Datum}
 use Rattle.sheet.specs.declared.Cell.{Cell}

@@ -22,8 +22,8 @@ use Rattle.sheet.specs.Rows.{entry_at, wrong_at, data_from, inputs_of}
 use Rattle.sheet.specs.Sheets.{Sheet, before}
 use Rattle.sheet.specs.Laws.Outcomes.{same-result, length-passed, any-passed}
 use Rattle.sheet.specs.Laws.Headers.{sheet-view, section_good, section-length}
-use Rattle.sheet.specs.Laws.Typing.{passed_check}
-use Rattle.sheet.specs.Laws.Memory.{memory_view}
+use Rattle.sheet.proofs.Laws.Typing.{passed_check}
+use Rattle.sheet.proofs.Laws.Memory.{memory_view}
 use Rattle.sheet.specs.declared.Cell.{Cell}
 use Rattle.sheet.specs.declared.Cell.TheVariants.{NotStarted, Started}
 use Rattle.kernel.specs.Instant.{input_at, cell_at}

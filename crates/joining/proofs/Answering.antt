@@ -7,7 +7,7 @@ use native.Mathlib.Omega.{arith}
 use lib.ListN.{length}
 use borrow.Author.Tests.{eq-eqb, ne_eqb}
 use Rattle.sheet.specs.Sheets.{check_of}
-use Rattle.sheet.specs.Laws.Typing.{sheet-reads}
+use Rattle.sheet.proofs.Laws.Typing.{sheet-reads}
 use Rattle.sheet.specs.declared.Refusal.{Refusal}
 use Rattle.sheet.specs.declared.Refusal.TheVariants.{OutputLength, JoinedLimit}
 use Rattle.sheet.specs.declared.Checked.TheVariants.{Refused as Stopped}

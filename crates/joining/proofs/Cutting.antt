@@ -8,8 +8,8 @@ use native.Mathlib.Omega.{arith}
 use lib.ListN.{length, get_or, length-append, length-take, length-drop}
 use lib.Seq.{drop-append_seam}
 use Rattle.sheet.specs.Lists.{Every, none, ◌and◌}
-use Rattle.sheet.specs.Laws.Checked.{CheckPassed, check_passed}
-use Rattle.sheet.specs.Laws.Typing.{sheet-reads}
+use Rattle.sheet.proofs.Laws.Checked.{CheckPassed, check_passed}
+use Rattle.sheet.proofs.Laws.Typing.{sheet-reads}
 use Rattle.join.specs.Joined.{shifted_numbers}
 use Rattle.join.specs.Bytes.{shifted_bytes, Sections, counted, sheet_bytes, section, behind, sections_of, joined_sections, joined_bytes}
 use Rattle.join.specs.declared.Counts.{Counts}

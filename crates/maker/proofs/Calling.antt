@@ -8,9 +8,9 @@ use Rattle.sheet.specs.Data.{wire_type}
 use Rattle.sheet.specs.Outcomes.{refusal, result}
 use Rattle.sheet.specs.Sheets.{Sheet, before, sheet_of, check_of}
 use Rattle.sheet.specs.Typing.{WellTyped}
-use Rattle.sheet.specs.Laws.Checked.{check_passed}
+use Rattle.sheet.proofs.Laws.Checked.{check_passed}
 use Rattle.sheet.specs.Laws.Headers.{SheetRead}
-use Rattle.sheet.specs.Laws.Typing.{passed_check}
+use Rattle.sheet.proofs.Laws.Typing.{passed_check}
 use Rattle.sheet.specs.declared.Refusal.{Refusal}
 use Rattle.sheet.specs.declared.Checked.TheVariants.{Passed}
 use Rattle.sheet_expressions.specs.Map.{Mapped, wires_of, EachHoldsJust}

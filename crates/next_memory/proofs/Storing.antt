@@ -12,8 +12,8 @@ use Rattle.sheet.specs.Data.{plain_byte, is_kept, wire_type, datum_of}
 use Rattle.sheet.specs.Sheets.{forms_of, expression_at, cells_before, own_cells}
 use Rattle.sheet.specs.Memory.{memory_bytes}
 use Rattle.sheet.specs.Laws.Readings.{forms_length, expression_extent}
-use Rattle.sheet.specs.Laws.Wires.{tree-count}
-use Rattle.sheet.specs.Laws.Memory.{pairwise-length, memory_length}
+use Rattle.sheet.proofs.Laws.Wires.{tree-count}
+use Rattle.sheet.proofs.Laws.Memory.{pairwise-length, memory_length}
 use Rattle.sheet.specs.declared.Cell.{Cell}
 use Rattle.sheet.specs.declared.Cell.TheVariants.{Started}
 use Rattle.sheet.specs.declared.Datum.TheVariants.{Boolean}

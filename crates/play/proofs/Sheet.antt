@@ -12,7 +12,7 @@ use borrow.Author.Tests.{eqb-true, eq-eqb, leb-true}
 use Rattle.sheet.specs.Outcomes.{result}
 use Rattle.sheet.specs.Sheets.{Sheet, sheet_forms, sheet_of, check_of}
 use Rattle.sheet.specs.Memory.{memory_bytes, start_memory, start_outcome, start_call}
-use Rattle.sheet.specs.Laws.Checked.{check_passed}
+use Rattle.sheet.proofs.Laws.Checked.{check_passed}
 use Rattle.sheet.specs.declared.Checked.{Checked}
 use Rattle.sheet.specs.declared.Checked.TheVariants.{Passed}
 use Rattle.lines.specs.Buffers.{Holds}

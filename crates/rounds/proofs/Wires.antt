@@ -11,10 +11,10 @@ use lib.ListN.{length, get_or}
 use Rattle.sheet.specs.Data.{ValueType, plain_byte, is_kept, wire_type, datum_of}
 use Rattle.sheet.specs.Expressions.{Expression, kept, cell_forms, cell_count}
 use Rattle.sheet.specs.Sheets.{forms_of, expression_at, cells_before, wire_tree, own_cells}
-use Rattle.sheet.specs.Laws.Memory.{word_back}
-use Rattle.sheet.specs.Laws.Typing.{type-of-named}
+use Rattle.sheet.proofs.Laws.Memory.{word_back}
+use Rattle.sheet.proofs.Laws.Typing.{type-of-named}
 use Rattle.sheet.specs.Laws.Readings.{forms_length}
-use Rattle.sheet.specs.Laws.Wires.{all-extent}
+use Rattle.sheet.proofs.Laws.Wires.{all-extent}
 use Rattle.sheet.specs.declared.Cell.{Cell}
 use Rattle.kernel.specs.Values.{Fits, known-fits}
 use Rattle.kernel.specs.Instant.{Environment, value}

@@ -2,11 +2,6 @@ pub mod Lists
 pub mod Lowest
 pub mod Outcomes
 pub mod Readings
-pub mod Wires
-pub mod Reads
 pub mod Headers
-pub mod Typing
-pub mod Checked
-pub mod Memory
 pub mod Refusals
 pub mod Examples

@@ -10,7 +10,7 @@ use Rattle.sheet.specs.Expressions.{CellForm}
 use Rattle.sheet.specs.Kinds.{cells_of, own_forms, found_of, kind_count}
 use Rattle.sheet.specs.Readings.{body_at}
 use Rattle.sheet.specs.Memory.{cell_bytes, memory_bytes, start_memory, own_cell}
-use Rattle.sheet.specs.Laws.Memory.{cell-length}
+use Rattle.sheet.proofs.Laws.Memory.{cell-length}
 use Rattle.sheet.specs.Laws.Readings.{own-starts, every-kind, ◌▸◌, end}
 use Rattle.sheet.specs.declared.Cell.{Cell}
 use Rattle.sheet_cells.specs.Owned.{own_bytes}

@@ -17,7 +17,7 @@ use Rattle.sheet.specs.Reads.{wires_read}
 use Rattle.sheet.specs.Readings.{erased, read_expression}
 use Rattle.sheet.specs.Sheets.{forms_of, expression_at, cells_before, wire_tree, own_cells, kept_count, read_wires}
 use Rattle.sheet.specs.Laws.Readings.{not_good}
-use Rattle.sheet.specs.Laws.Wires.{kept-few, all-extent}
+use Rattle.sheet.proofs.Laws.Wires.{kept-few, all-extent}
 use Rattle.sheet.specs.declared.Datum.TheVariants.{Boolean}
 use Rattle.sheet.specs.declared.Read.{Read}
 use Rattle.sheet.specs.declared.Refusal.{Refusal}

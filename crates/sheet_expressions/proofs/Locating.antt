@@ -12,7 +12,7 @@ use Rattle.sheet.specs.Expressions.{Expression, constant, cell_forms, cell_count
 use Rattle.sheet.specs.Readings.{got, read_each, read_expression}
 use Rattle.sheet.specs.Sheets.{forms_of, expression_at, cells_before, wire_tree, own_cells, kept_count, read_wire, read_wires}
 use Rattle.sheet.specs.Laws.Readings.{run-view, expression_extent, forms_length}
-use Rattle.sheet.specs.Laws.Wires.{wire-view, tree-count, all-extent, expression_sooner}
+use Rattle.sheet.proofs.Laws.Wires.{wire-view, tree-count, all-extent, expression_sooner}
 use Rattle.sheet.specs.declared.Datum.TheVariants.{Boolean}
 use Rattle.sheet_names.proofs.Numbers.{kept_from}
 use Rattle.sheet_expressions.specs.Map.{WiresRead, StartsAt}

@@ -26,7 +26,7 @@ use Rattle.sheet.specs.Laws.Lists.{among-append}
 use Rattle.sheet.specs.Laws.Readings.{not_good, kinds-between, ◌▸◌, end, OwnGood, own_good, ExpressionRead, run-view, expression_view}
 use Rattle.sheet.specs.Laws.Readings.{own-starts, forms_of-kind, own_forms_length, forms_length, operands-counted}
 use Rattle.sheet.specs.Laws.Readings.{ExpressionExtent, expression_extent, run-extent}
-use Rattle.sheet.specs.Laws.Reads.{reads-of-kind}
+use Rattle.sheet.proofs.Laws.Reads.{reads-of-kind}
 use Rattle.sheet.specs.declared.Refusal.{Refusal}
 use Rattle.sheet.specs.declared.Read.{Read}
 use Rattle.sheet.specs.declared.Read.TheVariants.{Refused, Got}

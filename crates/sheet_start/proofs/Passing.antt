@@ -9,7 +9,7 @@ use Rattle.sheet.specs.Expressions.{CellForm}
 use Rattle.sheet.specs.Outcomes.{refusal, result, holds_after}
 use Rattle.sheet.specs.Sheets.{Sheet, forms_of, sheet_forms, sheet_of, check_of}
 use Rattle.sheet.specs.Memory.{memory_bytes, start_memory, answer_of, start_outcome, start_call}
-use Rattle.sheet.specs.Laws.Checked.{check_passed}
+use Rattle.sheet.proofs.Laws.Checked.{check_passed}
 use Rattle.sheet.specs.Laws.Headers.{SheetRead}
 use Rattle.sheet.specs.declared.Refusal.{Refusal}
 use Rattle.sheet.specs.declared.Refusal.TheVariants.{MemoryLength}

@@ -11,7 +11,7 @@ use Rattle.sheet.specs.Data.{boolean}
 use Rattle.sheet.specs.Expressions.{CellForm, fby_cell}
 use Rattle.sheet.specs.Memory.{cell_bytes, memory_bytes, start_memory}
 use Rattle.sheet.specs.Typing.{Pairwise, done, ◌then◌}
-use Rattle.sheet.specs.Laws.Memory.{cell-length, memory_length}
+use Rattle.sheet.proofs.Laws.Memory.{cell-length, memory_length}
 use Rattle.sheet.specs.declared.Cell.{Cell}
 use Rattle.sheet_expressions.specs.Map.{start_in, CellNoted}
 use Rattle.sheet_cells.proofs.Starting.{start_bytes}

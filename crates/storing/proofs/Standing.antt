@@ -12,7 +12,7 @@ use Rattle.sheet.specs.Expressions.{Expression, constant, wire, input, last, una
 use Rattle.sheet.specs.Expressions.{Alternatives, only, either, Switch, present, reset, machine}
 use Rattle.sheet.specs.Expressions.{CellForm, switch_forms, cell_forms, cell_count, count_in}
 use Rattle.sheet.specs.Memory.{cell_bytes, memory_bytes, start_memory}
-use Rattle.sheet.specs.Laws.Memory.{cell-length}
+use Rattle.sheet.proofs.Laws.Memory.{cell-length}
 use Rattle.sheet.specs.Laws.Readings.{forms_length}
 use Rattle.sheet.specs.declared.Cell.{Cell}
 use Rattle.sheet.specs.declared.Cell.TheVariants.{NotStarted}

@@ -10,7 +10,7 @@ use lib.Seq.{sets, length-sets}
 use Rattle.numbers.specs.Laws.{sets-append}
 use Rattle.sheet.specs.Expressions.{Expression, cell_forms, cell_count}
 use Rattle.sheet.specs.Memory.{cell_bytes, memory_bytes}
-use Rattle.sheet.specs.Laws.Memory.{cell-length, memory_length}
+use Rattle.sheet.proofs.Laws.Memory.{cell-length, memory_length}
 use Rattle.sheet.specs.declared.Cell.{Cell}
 use Rattle.sheet_walk.specs.declared.skip.Skipped.{Skipped}
 use Rattle.kernel.specs.Instant.{resting, stored}

@@ -17,7 +17,7 @@ use Rattle.numbers.specs.Words.{word_at}
 use Rattle.text.specs.Buffers.{Puts}
 use Rattle.text.specs.Digits.{digits, decimal}
 use Rattle.text.specs.Pieces.{spaced_all, numbers_of}
-use Rattle.text.specs.Laws.{digits-one, digits_more, digits_ten}
+use Rattle.text.proofs.Laws.{digits-one, digits_more, digits_ten}
 use Rattle.text.proofs.Putting.{then}
 
 -- a number below ten

@@ -1,5 +1,4 @@
 pub mod Digits
 pub mod Pieces
 pub mod Buffers
-pub mod Laws
 pub mod Cases

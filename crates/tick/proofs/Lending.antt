@@ -7,7 +7,7 @@ use native.Mathlib.Omega.{arith}
 use lib.ListN.{length, take, drop}
 use lib.Seq.{drop-drop}
 use Rattle.sheet.specs.Sheets.{Sheet, sheet_forms}
-use Rattle.sheet.specs.Laws.Memory.{memory_view}
+use Rattle.sheet.proofs.Laws.Memory.{memory_view}
 use Rattle.sheet.specs.Laws.Outcomes.{length-passed}
 use Rattle.sheet.specs.Rows.{inputs_of}
 use Rattle.sheet.specs.declared.Refusal.TheVariants.{InputLength}

@@ -6,7 +6,7 @@ use Rattle.sheet.specs.Outcomes.{result}
 use Rattle.sheet.specs.Sheets.{Sheet, sheet_forms}
 use Rattle.sheet.specs.Memory.{invalid_at, cells_from, memory_of}
 use Rattle.sheet.specs.Laws.Lowest.{none-lowest}
-use Rattle.sheet.specs.Laws.Memory.{memory_view}
+use Rattle.sheet.proofs.Laws.Memory.{memory_view}
 use Rattle.sheet.specs.Laws.Outcomes.{same-result}
 use Rattle.sheet.specs.declared.Cell.{Cell}
 use Rattle.board.specs.Parts.{joined, sheet_at, begin, size, memory_part, passed_of}

@@ -17,7 +17,7 @@ use Rattle.sheet.specs.Rows.{wrong_at, inputs_of}
 use Rattle.sheet.specs.Laws.Lists.{never}
 use Rattle.sheet.specs.Laws.Lowest.{lowest-first}
 use Rattle.sheet.specs.Laws.Refusals.{by-test, sheet-refused-inside}
-use Rattle.sheet.specs.Laws.Typing.{passed_check}
+use Rattle.sheet.proofs.Laws.Typing.{passed_check}
 use Rattle.sheet.specs.declared.Refusal.{Refusal}
 use Rattle.sheet.specs.declared.Refusal.TheVariants.{BoardFrame, MemoryLength, CellContent, InputLength, InputContent, OutputLength}
 use Rattle.kernel.specs.Laws.Refusals.{few-wires}

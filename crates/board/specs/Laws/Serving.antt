@@ -9,9 +9,9 @@ use Rattle.sheet.specs.Sheets.{Sheet, sheet_forms, sheet_of}
 use Rattle.sheet.specs.Memory.{memory_of, start_memory, start_outcome, start_call}
 use Rattle.sheet.specs.Rows.{inputs_of}
 use Rattle.sheet.specs.Laws.Lists.{never}
-use Rattle.sheet.specs.Laws.Memory.{memory_view, memory_back, row-length, start_memory_valid}
+use Rattle.sheet.proofs.Laws.Memory.{memory_view, memory_back, row-length, start_memory_valid}
 use Rattle.sheet.specs.Laws.Outcomes.{no_result, same-result}
-use Rattle.sheet.specs.Laws.Typing.{checked_well_typed}
+use Rattle.sheet.proofs.Laws.Typing.{checked_well_typed}
 use Rattle.sheet.specs.declared.Cell.{Cell}
 use Rattle.sheet.specs.declared.Datum.{Datum}
 use Rattle.sheet.specs.declared.Refusal.{Refusal}

@@ -9,7 +9,7 @@ use borrow.Author.Tests.{ltb-true, ltb-false, lt-ltb}
 use Rattle.sheet.specs.Outcomes.{Outcome, refusal, result}
 use Rattle.sheet.specs.Sheets.{Sheet, sheet_forms}
 use Rattle.sheet.specs.Laws.Lists.{never}
-use Rattle.sheet.specs.Laws.Memory.{memory_view}
+use Rattle.sheet.proofs.Laws.Memory.{memory_view}
 use Rattle.sheet.specs.declared.Refusal.{Refusal}
 use Rattle.sheet.specs.declared.Refusal.TheVariants.{StaysUnknown}
 use Rattle.kernel.specs.Calls.{InstantCall, rounds_call}

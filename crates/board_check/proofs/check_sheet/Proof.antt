@@ -7,7 +7,7 @@ use lib.ListN.{take, length-take, length-drop}
 use borrow.Author.Rules.{rules}
 use Rattle.sheet.specs.Sheets.{sheet_forms, check_of}
 use Rattle.sheet.specs.Typing.{Pairwise}
-use Rattle.sheet.specs.Laws.Checked.{CheckPassed, check_passed}
+use Rattle.sheet.proofs.Laws.Checked.{CheckPassed, check_passed}
 use Rattle.sheet.specs.declared.Checked.TheVariants.{Refused}
 use Rattle.sheet_expressions.specs.Map.{CellNoted}
 use Rattle.board_check.proofs.Passing.{held-there}

@@ -5,7 +5,7 @@ use native.Mathlib.Omega.{arith}
 use lib.ListN.{length, length-take, get_or}
 use Rattle.sheet.specs.Sheets.{sheet_forms}
 use Rattle.given.specs.Grants.{parts_of}
-use Rattle.sheet.specs.Laws.Checked.{check_passed}
+use Rattle.sheet.proofs.Laws.Checked.{check_passed}
 use Rattle.buffers.specs.Laws.{noted-hold, held_forms}
 use Rattle.given.proofs.Passing.{own-tests, sheet-refused, buffers_refused, buffers_passed}
 use Rattle.given.proofs.Standing.{input-length}

@@ -16,7 +16,7 @@ use Rattle.sheet.specs.Outcomes.{Outcome, result, unless_length, unless_any}
 use Rattle.sheet.specs.Memory.{cell_bytes, memory_bytes, invalid_at, cells_from, memory_of}
 use Rattle.sheet.specs.Rows.{row_bytes, wrong_at, data_from, inputs_of}
 use Rattle.sheet.specs.Laws.Lowest.{none-lowest}
-use Rattle.sheet.specs.Laws.Memory.{pairwise-length, memory_valid, row-valid}
+use Rattle.sheet.proofs.Laws.Memory.{pairwise-length, memory_valid, row-valid}
 use Rattle.sheet.specs.Laws.Outcomes.{same-result, length-passed, any-passed}
 use Rattle.sheet.specs.declared.Refusal.{Refusal}
 use Rattle.sheet.specs.declared.Refusal.TheVariants.{MemoryLength, CellContent, InputLength, InputContent}

@@ -14,7 +14,7 @@ use Rattle.sheet.specs.Readings.{Reading, got, read_each}
 use Rattle.sheet.specs.Sheets.{Sheet, kept_count, read_wire, read_wires, read_sheet, outcome_of, sheet_of}
 use Rattle.sheet.specs.Outcomes.{result}
 use Rattle.sheet.specs.Laws.Readings.{run-view}
-use Rattle.sheet.specs.Laws.Typing.{sheet-reads, read-counted}
+use Rattle.sheet.proofs.Laws.Typing.{sheet-reads, read-counted}
 use Rattle.join.specs.Joined.{shifted, shifted_numbers, joined}
 use Rattle.join.specs.Bytes.{raise_of, shifted_bytes, Sections, sheet_bytes, sections_of, joined_sections, joined_bytes}
 use Rattle.join.specs.Laws.Limits.{counts_of, Limited}

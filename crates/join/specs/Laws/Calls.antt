@@ -11,11 +11,11 @@ use borrow.Author.Tests.{eqb-true, eqb-false, eq-eqb, ltb-true}
 use Rattle.sheet.specs.Outcomes.{Outcome, refusal, result}
 use Rattle.sheet.specs.Sheets.{Sheet, sheet_forms, sheet_of, check_of}
 use Rattle.sheet.specs.Memory.{memory_bytes, start_memory, start_outcome, start_call}
-use Rattle.sheet.specs.Laws.Checked.{refused-checked, passed-checked}
+use Rattle.sheet.proofs.Laws.Checked.{refused-checked, passed-checked}
 use Rattle.sheet.specs.Laws.Lists.{never}
 use Rattle.sheet.specs.Laws.Outcomes.{same-result}
 use Rattle.sheet.specs.Laws.Refusals.{check_refusals}
-use Rattle.sheet.specs.Laws.Typing.{passed_check}
+use Rattle.sheet.proofs.Laws.Typing.{passed_check}
 use Rattle.sheet.specs.declared.Checked.TheVariants.{Refused as RefusedSheet}
 use Rattle.sheet.specs.declared.Refusal.{Refusal}
 use Rattle.sheet.specs.declared.Refusal.TheVariants.{OutputLength, JoinedLimit}

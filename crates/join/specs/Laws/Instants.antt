@@ -10,7 +10,7 @@ use Rattle.sheet.specs.Sheets.{Sheet, sheet_forms}
 use Rattle.sheet.specs.Typing.{WellTyped}
 use Rattle.sheet.specs.declared.Datum.{Datum}
 use Rattle.sheet.specs.declared.Cell.{Cell}
-use Rattle.sheet.specs.Laws.Memory.{pairwise-length}
+use Rattle.sheet.proofs.Laws.Memory.{pairwise-length}
 use Rattle.kernel.specs.Values.{datum_in}
 use Rattle.kernel.specs.Order.{value_at}
 use Rattle.kernel.specs.Instant.{Environment}

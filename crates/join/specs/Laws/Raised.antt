@@ -10,8 +10,8 @@ use Rattle.sheet.specs.Outcomes.{result}
 use Rattle.sheet.specs.Readings.{Reading, got, read_each, read_expression}
 use Rattle.sheet.specs.Sheets.{Sheet, kept_count, read_wire, read_wires, sheet_of}
 use Rattle.sheet.specs.Laws.Readings.{OwnGood, end as no_row, ◌▸◌, every-kind, no-level, run-view, expression_view}
-use Rattle.sheet.specs.Laws.Typing.{sheet-reads}
-use Rattle.sheet.specs.Laws.Wires.{wire-view}
+use Rattle.sheet.proofs.Laws.Typing.{sheet-reads}
+use Rattle.sheet.proofs.Laws.Wires.{wire-view}
 use Rattle.join.specs.Bytes.{raise_of, sheet_bytes, sections_of}
 use Rattle.join.specs.Laws.Sections.{start, inputs-counted, wires-counted, expressions_at, sections_view}
 

@@ -16,7 +16,7 @@ use Rattle.sheet.specs.Expressions.{Expression, constant, kept}
 use Rattle.sheet.specs.Readings.{Reading, got, read_each, named_at, body_at, names_of, body_from, own_of, read_expression}
 use Rattle.sheet.specs.Sheets.{wire_tree, read_wire}
 use Rattle.sheet.specs.Laws.Readings.{OwnGood, end, ◌▸◌, every-kind, no-level, run-view, expression_view, expression_extent, run-extent}
-use Rattle.sheet.specs.Laws.Wires.{wire-view}
+use Rattle.sheet.proofs.Laws.Wires.{wire-view}
 use Rattle.sheet.specs.declared.Datum.TheVariants.{Boolean}
 use Rattle.sheet.specs.declared.Read.TheVariants.{Got}
 use Rattle.join.specs.Joined.{shifted}

@@ -8,9 +8,9 @@ use Rattle.sheet.specs.Sheets.{Sheet, sheet_forms, sheet_of}
 use Rattle.sheet.specs.Lists.{Every, none, ◌and◌}
 use Rattle.sheet.specs.Memory.{memory_bytes, memory_of}
 use Rattle.sheet.specs.Rows.{row_bytes, inputs_of}
-use Rattle.sheet.specs.Laws.Memory.{memory_valid, row-valid, pairwise-length}
+use Rattle.sheet.proofs.Laws.Memory.{memory_valid, row-valid, pairwise-length}
 use Rattle.sheet.specs.Laws.Outcomes.{same-result}
-use Rattle.sheet.specs.Laws.Typing.{passed_check}
+use Rattle.sheet.proofs.Laws.Typing.{passed_check}
 use Rattle.sheet.specs.declared.Cell.{Cell}
 use Rattle.sheet.specs.declared.Datum.{Datum}
 use Rattle.kernel.specs.Systems.{Full}

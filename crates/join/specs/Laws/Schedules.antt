@@ -8,7 +8,7 @@ use Rattle.sheet.specs.Outcomes.{result}
 use Rattle.sheet.specs.Sheets.{Sheet}
 use Rattle.sheet.specs.Lists.{Every, none, ◌and◌}
 use Rattle.sheet.specs.Typing.{WellTyped}
-use Rattle.sheet.specs.Laws.Memory.{pairwise-length}
+use Rattle.sheet.proofs.Laws.Memory.{pairwise-length}
 use Rattle.kernel.specs.Instants.{wire_count, reads_at}
 use Rattle.kernel.specs.Schedules.{entry_at, schedule_of, Earlier, IsSchedule}
 use Rattle.kernel.specs.Laws.Pigeonhole.{each-met}

@@ -8,7 +8,7 @@ use Rattle.sheet.specs.Memory.{memory_bytes}
 use Rattle.sheet.specs.Rows.{row_bytes}
 use Rattle.sheet.specs.Laws.Outcomes.{same-result}
 use Rattle.sheet.specs.Laws.Refusals.{Within, OutcomeWithin, refusal-within, result-within}
-use Rattle.sheet.specs.Laws.Typing.{checked_well_typed}
+use Rattle.sheet.proofs.Laws.Typing.{checked_well_typed}
 use Rattle.sheet.specs.declared.Refusal.{Refusal}
 use Rattle.sheet.specs.declared.Refusal.TheVariants.{StaysUnknown}
 use Rattle.closure.specs.Closures.{Closure, LowestLoop}

@@ -12,7 +12,7 @@ use Rattle.sheet.specs.Expressions.{is_kept_wire, cell_count}
 use Rattle.sheet.specs.Outcomes.{result}
 use Rattle.sheet.specs.Memory.{memory_of}
 use Rattle.sheet.specs.Sheets.{sheet_forms, expression_at, cells_before}
-use Rattle.sheet.specs.Laws.Checked.{kept-by-byte}
+use Rattle.sheet.proofs.Laws.Checked.{kept-by-byte}
 use Rattle.sheet.specs.Laws.Lists.{never}
 use Rattle.sheet.specs.declared.Cell.{Cell}
 use Rattle.sheet.specs.declared.Cell.TheVariants.{NotStarted, Started}

@@ -6,7 +6,7 @@ use Rattle.sheet.specs.Expressions.{Expression, constant, wire, input, last, una
 use Rattle.sheet.specs.Expressions.{kept_cell, cell_forms, cell_count}
 use Rattle.sheet.specs.Sheets.{forms_of, expression_at, cells_before}
 use Rattle.sheet.specs.Typing.{done, ◌then◌, HasType, HaveTypes, ValidCell, ValidRow}
-use Rattle.sheet.specs.Laws.Typing.{datum-is}
+use Rattle.sheet.proofs.Laws.Typing.{datum-is}
 use Rattle.sheet.specs.Laws.Lists.{never}
 use Rattle.sheet.specs.declared.Datum.{Datum}
 use Rattle.sheet.specs.declared.Cell.{Cell}

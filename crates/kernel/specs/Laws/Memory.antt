@@ -12,8 +12,8 @@ use Rattle.sheet.specs.Outcomes.{result}
 use Rattle.sheet.specs.Sheets.{Sheet, forms_of, sheet_forms}
 use Rattle.sheet.specs.Memory.{memory_bytes, memory_of}
 use Rattle.sheet.specs.Typing.{done, ◌then◌, HaveTypes, WellTyped, ValidCells, ValidMemory, ValidRow, ValidInputs}
-use Rattle.sheet.specs.Laws.Memory.{pairwise_append, pairwise-length, memory_length, memory_back, memory_valid, row-valid}
-use Rattle.sheet.specs.Laws.Typing.{PassedCheck, checked_well_typed}
+use Rattle.sheet.proofs.Laws.Memory.{pairwise_append, pairwise-length, memory_length, memory_back, memory_valid, row-valid}
+use Rattle.sheet.proofs.Laws.Typing.{PassedCheck, checked_well_typed}
 use Rattle.sheet.specs.declared.Datum.{Datum}
 use Rattle.sheet.specs.declared.Cell.{Cell}
 use Rattle.kernel.specs.Values.{datum_in, IsKnown, known, Has, has, Fits, unknown-fits, known-fits}

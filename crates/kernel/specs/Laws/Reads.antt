@@ -8,8 +8,8 @@ use Rattle.sheet.specs.Reads.{wires_read}
 use Rattle.sheet.specs.Sheets.{Sheet, expression_at}
 use Rattle.sheet.specs.Typing.{HaveTypes, WellTyped, done, ◌then◌}
 use Rattle.sheet.specs.Laws.Lists.{never, every_holds}
-use Rattle.sheet.specs.Laws.Memory.{pairwise-length}
-use Rattle.sheet.specs.Laws.Reads.{typed-reads}
+use Rattle.sheet.proofs.Laws.Memory.{pairwise-length}
+use Rattle.sheet.proofs.Laws.Reads.{typed-reads}
 use Rattle.kernel.specs.Instants.{wire_count, reads_at}
 
 -- the reads of a wire are those of its tree

@@ -9,7 +9,7 @@ use Rattle.sheet.specs.Memory.{memory_of}
 use Rattle.sheet.specs.Rows.{inputs_of}
 use Rattle.sheet.specs.Laws.Refusals.{OutcomeWithin, result-within, sheet-of-within, memory_within_lem, inputs-within}
 use Rattle.sheet.specs.Laws.Refusals.{followed-within, length-within, any-within, wider}
-use Rattle.sheet.specs.Laws.Typing.{passed_check}
+use Rattle.sheet.proofs.Laws.Typing.{passed_check}
 use Rattle.sheet.specs.declared.Refusal.TheVariants.{OutputLength, ScheduleLength, ScheduleEntry, ScheduleOrder}
 use Rattle.kernel.specs.Instants.{wire_count, reads_at}
 use Rattle.kernel.specs.Schedules.{not_new, too_early, schedule_of, pass}

@@ -9,8 +9,8 @@ use Rattle.sheet.specs.Expressions.{Alternatives, only, either, Switch, present,
 use Rattle.sheet.specs.Expressions.{CellForm, switch_forms, cell_forms, forms_in, cell_count, count_in}
 use Rattle.sheet.specs.Typing.{done, ◌then◌, unary_type, operand_type, HasType, AlternativesHaveType, ValidCells, ValidRow}
 use Rattle.sheet.specs.Laws.Readings.{forms_length, forms_in_length}
-use Rattle.sheet.specs.Laws.Typing.{own-type}
-use Rattle.sheet.specs.Laws.Memory.{pairwise-length, pairwise_append, start-valid}
+use Rattle.sheet.proofs.Laws.Typing.{own-type}
+use Rattle.sheet.proofs.Laws.Memory.{pairwise-length, pairwise_append, start-valid}
 use Rattle.sheet.specs.declared.Cell.{Cell}
 use Rattle.sheet.specs.declared.Cell.TheVariants.{NotStarted}
 use Rattle.kernel.specs.Values.{is_true, datum_in, Has, has}

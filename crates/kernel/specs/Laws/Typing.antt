@@ -13,7 +13,7 @@ use Rattle.sheet.specs.Expressions.{Alternatives, only, either}
 use Rattle.sheet.specs.Expressions.{CellForm, pre_cell, fby_cell, switch_forms, cell_forms, forms_in, cell_count, count_in}
 use Rattle.sheet.specs.Typing.{done, ◌then◌, unary_type, operand_type, result_type, HasType, AlternativesHaveType, ValidCell, ValidCells, ValidRow}
 use Rattle.sheet.specs.Laws.Readings.{forms_length, forms_in_length}
-use Rattle.sheet.specs.Laws.Typing.{own-type}
+use Rattle.sheet.proofs.Laws.Typing.{own-type}
 use Rattle.sheet.specs.declared.Datum.{Datum}
 use Rattle.sheet.specs.declared.Cell.{Cell}
 use Rattle.sheet.specs.declared.Cell.TheVariants.{NotStarted, Started}

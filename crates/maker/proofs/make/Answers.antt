@@ -1,6 +1,6 @@
 -- `make` meets its contract: the answers follow those of the check, whose map has what each wire reads.
 use mathlib.Core.Path.{sym, ◌∙◌}
-use Rattle.sheet.specs.Laws.Checked.{check_refused}
+use Rattle.sheet.proofs.Laws.Checked.{check_refused}
 use Rattle.maker.proofs.Calling.{passes, make-stopped, make-passed}
 use Rattle.maker.proofs.make.Goals as goal
 

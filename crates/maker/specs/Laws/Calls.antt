@@ -14,7 +14,7 @@ use Rattle.sheet.specs.Sheets.{Sheet, sheet_of}
 use Rattle.sheet.specs.Laws.Lists.{never}
 use Rattle.sheet.specs.Laws.Outcomes.{same-result}
 use Rattle.sheet.specs.Laws.Refusals.{OutcomeWithin, refusal-within, sheet-of-within}
-use Rattle.sheet.specs.Laws.Typing.{passed_check, checked_well_typed}
+use Rattle.sheet.proofs.Laws.Typing.{passed_check, checked_well_typed}
 use Rattle.sheet.specs.declared.Refusal.{Refusal}
 use Rattle.sheet.specs.declared.Refusal.TheVariants.{ScheduleLength, NoSchedule}
 use Rattle.kernel.specs.Instants.{wire_count}

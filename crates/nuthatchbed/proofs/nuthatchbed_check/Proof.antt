@@ -3,7 +3,7 @@ use mathlib.Core.Path.{sym, ap, ◌∙◌}
 use native.Mathlib.Omega.{arith}
 use borrow.Author.Rules.{rules}
 use Rattle.sheet.specs.Sheets.{packed_checked}
-use Rattle.sheet.specs.Laws.Checked.{check_passed}
+use Rattle.sheet.proofs.Laws.Checked.{check_passed}
 use Rattle.sheet.specs.Laws.Refusals.{check_refusals}
 use Rattle.nuthatchbed.proofs.nuthatchbed_check.Statement.{statement}
 use Rattle.nuthatchbed.proofs.nuthatchbed_check.Tie as tie

@@ -7,7 +7,7 @@ use native.Mathlib.Omega.{arith}
 use lib.ListN.{length, get_or, drop, length-set, drop_of_length-le}
 use Rattle.sheet.specs.Readings.{read_each}
 use Rattle.sheet.specs.Sheets.{kept_count, own_cells, read_wire, read_wires}
-use Rattle.sheet.specs.Laws.Wires.{kept-few}
+use Rattle.sheet.proofs.Laws.Wires.{kept-few}
 use Rattle.sheet_names.specs.Naming.{Naming}
 use Rattle.sheet_names.proofs.Numbers.{kept_from}
 use Rattle.sheet_own.specs.Own.{Lookup}

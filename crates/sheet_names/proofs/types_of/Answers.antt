@@ -6,7 +6,7 @@ use borrow.Author.Tests.{eq-eqb, ne_eqb, le-leb, lt-leb}
 use lib.ListN.{drop_of_length-le}
 use Rattle.sheet.specs.Data.{is_kept}
 use Rattle.sheet.specs.Sheets.{kept_count}
-use Rattle.sheet.specs.Laws.Wires.{kept-few}
+use Rattle.sheet.proofs.Laws.Wires.{kept-few}
 use Rattle.sheet_names.proofs.Numbers.{none_before, name-added, name-passed, all-before, kept-counted}
 use Rattle.sheet_names.proofs.types_of.Invariants.{is_number}
 use Rattle.sheet_names.proofs.types_of.Goals as goal

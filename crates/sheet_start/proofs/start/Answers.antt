@@ -1,6 +1,6 @@
 -- `start` meets its contract: the answers follow those of the check, and the cells that it noted are put.
 use mathlib.Core.Path.{sym, ◌∙◌}
-use Rattle.sheet.specs.Laws.Checked.{check_refused}
+use Rattle.sheet.proofs.Laws.Checked.{check_refused}
 use Rattle.sheet_start.proofs.Passing.{passes, start-stopped, start-passed}
 use Rattle.sheet_start.proofs.start.Goals as goal
 

@@ -2,7 +2,7 @@
 -- The measure is the number.
 use Prim.Native.Nat.{◌/◌}
 use native.Mathlib.Omega.{arith}
-use Rattle.text.specs.Laws.{digits-below}
+use Rattle.text.proofs.Laws.{digits-below}
 use Rattle.text.proofs.Spelling.{only, last}
 use Rattle.text.proofs.+put_digits.Goals as goal
 

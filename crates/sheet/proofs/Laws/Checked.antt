@@ -9,8 +9,8 @@ use Rattle.sheet.specs.Readings.{Reading, refused, got}
 use Rattle.sheet.specs.Sheets.{Sheet, sheet_forms, expression_at, before, kept_count, read_wires, read_sheet, outcome_of, sheet_of, checked_of, check_of}
 use Rattle.sheet.specs.Laws.Headers.{SheetRead, sheet-view, section_good, section-length}
 use Rattle.sheet.specs.Laws.Lists.{never}
-use Rattle.sheet.specs.Laws.Typing.{read-passed, read-counted, passed_check}
-use Rattle.sheet.specs.Laws.Wires.{all-extent, wires-kept}
+use Rattle.sheet.proofs.Laws.Typing.{read-passed, read-counted, passed_check}
+use Rattle.sheet.proofs.Laws.Wires.{all-extent, wires-kept}
 use Rattle.sheet.specs.declared.Refusal.{Refusal}
 use Rattle.sheet.specs.declared.Refusal.TheVariants.{TypeByte}
 use Rattle.sheet.specs.declared.Checked.TheVariants.{Refused, Passed}

@@ -20,7 +20,7 @@ use Rattle.sheet.specs.Typing.{Pairwise, done, ◌then◌, unary_type, operand_t
 use Rattle.sheet.specs.Typing.{ValidCell, ValidCells, ValidMemory, ValidRow}
 use Rattle.sheet.specs.Laws.Lowest.{none-lowest}
 use Rattle.sheet.specs.Laws.Outcomes.{same-result, length-passed, any-passed}
-use Rattle.sheet.specs.Laws.Typing.{datum-is, own-type}
+use Rattle.sheet.proofs.Laws.Typing.{datum-is, own-type}
 use Rattle.sheet.specs.declared.Datum.{Datum}
 use Rattle.sheet.specs.declared.Datum.TheVariants.{Boolean, Number}
 use Rattle.sheet.specs.declared.Cell.{Cell}

@@ -18,7 +18,7 @@ use Rattle.sheet.specs.Sheets.{Sheet, sheet_forms, before, kept_count, read_wire
 use Rattle.sheet.specs.Readings.{Reading, refused, got, read_each, named_at, read_expression}
 use Rattle.sheet.specs.Typing.{HasType, HaveTypes, WellTyped, done, ◌then◌}
 use Rattle.sheet.specs.Laws.Readings.{end, ◌▸◌, every-kind, run-view, no-level, expression_view}
-use Rattle.sheet.specs.Laws.Wires.{wire-view, all-extent, kept-few}
+use Rattle.sheet.proofs.Laws.Wires.{wire-view, all-extent, kept-few}
 use Rattle.sheet.specs.Laws.Headers.{section_good, section-length, section-byte, sheet-view}
 use Rattle.sheet.specs.declared.Datum.{Datum}
 use Rattle.sheet.specs.declared.Datum.TheVariants.{Boolean, Number}

@@ -1,0 +1,38 @@
+-- `put_shifted` meets its contract. The loop's invariant: the bytes passed are put, shifted, and the others are still to be.
+use Rattle.joining.proofs.Shifting.{first-turn, last_turn, kind-here, kind-turn, body-stays, body-turn}
+use Rattle.joining.proofs.writing.put_shifted.Goals as goal
+
+pub loop-i-init : goal.loop-i-init
+loop-i-init c = first-turn _ _ _ _ _ c.requires.1
+
+pub body-left-requires : goal.body-left-requires
+body-left-requires c =
+    kind-here _ _ _ _ _ c.loop-i.invariant c.loop-i-test.true c.if-left-eq0.true
+
+pub raise_of-raise-requires : goal.raise_of-raise-requires
+raise_of-raise-requires c =
+    kind-here _ _ _ _ _ c.loop-i.invariant c.loop-i-test.true c.if-left-eq0.true
+
+pub overflow_add-joined-else-left-eq0 : goal.overflow_add-joined-else-left-eq0
+overflow_add-joined-else-left-eq0 c =
+    let at = c.loop-i in
+    record {
+      fits = body-stays _ _ _ _ _ at.invariant c.loop-i-test.true c.if-left-eq0.false
+          (c.type_inv.bytes at.i).fits;
+    }
+
+pub loop-i-preserved : goal.loop-i-preserved
+loop-i-preserved c =
+    let at = c.loop-i in
+    let inside = c.loop-i-test.true in
+    elim c.if-left-eq0.branch [
+      | goal.then-left-eq0 w ↦ rw (w.joined-is, w.left-is, w.raise-is, w.body-left.ensures, w.raise_of-raise.ensures) (kind-turn _ _ _ _ _ at.invariant inside c.requires.0 w.if-left-eq0.true)
+      | goal.else-left-eq0 w ↦ rw (w.joined-is, w.left-is, w.raise-is)
+          (body-turn _ _ _ _ _ at.invariant inside w.if-left-eq0.false (c.type_inv.bytes at.i).fits c.requires.0)
+    ]
+
+pub shape_of-joined : goal.shape_of-joined
+shape_of-joined c = c.loop-i.invariant.put.same_length
+
+pub returns : goal.returns
+returns c = last_turn _ _ _ _ _ _ c.loop-i.invariant c.loop-i-test.false

@@ -5,7 +5,7 @@
 
 ghost use Rattle.std.specs.Prelude.{◌≡◌, ℕ, ◌+◌, ◌≤◌, List, length};
 ghost use Rattle.std.proofs.Math.Seq.{paste};
-ghost use Rattle.sheet.specs.Outcomes.{result};
+ghost use Rattle.sheet.specs.Outcomes.{result as outcome_of};
 ghost use Rattle.sheet.specs.Sheets.{Sheet, sheet_of};
 ghost use Rattle.board.specs.Boards.{placed_from, length_place, begin_of, bytes_of, frame_of, sheets_from};
 ghost use Rattle.board.specs.Parts.{passed_of};
@@ -55,9 +55,8 @@ pub fn check(
     input: &[u8],
     output: &[u8],
 ) -> Found
-    requires { frame_of board.now ≡ result sheets }
-    ensures* { λ r. ⌜ Finds board.now wanted
-        (passed_of board.now memory.now input.now output.now) r ⌝ }
+    requires { frame_of board.now ≡ outcome_of sheets }
+    ensures { Finds board.now wanted (passed_of board.now memory.now input.now output.now) result }
 {
     let mut forms = [0u16; 512];
     let mut types = [0u8; 128];
@@ -90,9 +89,8 @@ fn check_sheets(
     forms: &mut [u16; 512],
     types: &mut [u8; 128],
 ) -> Walked
-    requires { (frame_of board.now ≡ result sheets) × (length forms.old ≡ 512) × (length types.old ≡ 128) }
-    ensures* { λ r. ⌜ Walks board.now wanted forms.new types.new
-        (sheets_from board.now sheets 0) r ⌝ }
+    requires { (frame_of board.now ≡ outcome_of sheets) × (length forms.old ≡ 512) × (length types.old ≡ 128) }
+    ensures { Walks board.now wanted forms.new types.new (sheets_from board.now sheets 0) result }
 {
     let mut here = Begin {
         at: 1,
@@ -127,10 +125,10 @@ fn check_sheets(
 // inputs are put behind the others.
 fn check_sheet(board: &[u8], here: Begin, forms: &mut [u16; 512], types: &mut [u8; 128]) -> Step
     requires { Room board.now here forms.old types.old }
-    ensures* { λ r. ⌜ ((k : ℕ) (done : List Sheet) → here ≡ behind (length_place board.now k) done
+    ensures { (k : ℕ) (done : List Sheet) → here ≡ behind (length_place board.now k) done
         → Collected done forms.old types.old
         → Steps board.now k here done forms.new types.new
-        (placed_from (begin_of board.now k) (sheet_of (bytes_of board.now k))) r) ⌝ }
+        (placed_from (begin_of board.now k) (sheet_of (bytes_of board.now k))) result }
 {
     let at = here.at;
     let begin = at + 2;
@@ -165,7 +163,7 @@ fn check_sheet(board: &[u8], here: Begin, forms: &mut [u16; 512], types: &mut [u
 // Where the next sheet and its parts begin, whose length stands at `at`, behind so many cells, inputs and outputs more.
 fn further(here: Begin, at: usize, cells: usize, inputs: usize, outputs: usize) -> Begin
     requires { (here.cells + cells ≤ 512) × (here.inputs + inputs ≤ 128) × (here.outputs + outputs ≤ 128) }
-    ensures* { λ r. ⌜ r ≡ further_of here at cells inputs outputs ⌝ }
+    ensures { result ≡ further_of here at cells inputs outputs }
 {
     Begin {
         at,
@@ -178,7 +176,7 @@ fn further(here: Begin, at: usize, cells: usize, inputs: usize, outputs: usize) 
 // Puts the first `count` entries of a map behind the `others` that are there.
 fn put_forms(forms: &mut [u16; 512], others: usize, entries: &[u16; 64], count: usize)
     requires { (others + count ≤ 512) × (count ≤ 64) × (length forms.old ≡ 512) × (count ≤ length entries.now) }
-    ensures* { λ _. ⌜ forms.new ≡ paste forms.old others entries.now count ⌝ }
+    ensures { forms.new ≡ paste forms.old others entries.now count }
 {
     let mut i = 0;
     while i < count {
@@ -190,7 +188,7 @@ fn put_forms(forms: &mut [u16; 512], others: usize, entries: &[u16; 64], count: 
 // Puts the type bytes of a sheet's inputs behind the `others` that are there.
 fn put_types(types: &mut [u8; 128], others: usize, bytes: &[u8])
     requires { (others + length bytes.now ≤ 128) × (length types.old ≡ 128) }
-    ensures* { λ _. ⌜ types.new ≡ paste types.old others bytes.now (length bytes.now) ⌝ }
+    ensures { types.new ≡ paste types.old others bytes.now (length bytes.now) }
 {
     let mut i = 0;
     while i < bytes.len() {

@@ -1,7 +1,7 @@
 #!/usr/bin/env python3
 """Moves files of laws of a crate from specs/ to proofs/, so that a must-fail edit of a definition that they rest on is refused by them:
 
-    tools/move_laws.py CRATE MODULE..        as  tools/move_laws.py sheet Laws.Wires Laws.Reads
+    tools/move_laws.py CRATE MODULE..        as  tools/move_laws.py sheet Laws.Wires Laws.Reads, or for all of them  tools/move_laws.py kernel Laws
 
 The statements stay; paths `Rattle.CRATE.specs.MODULE` become `Rattle.CRATE.proofs.MODULE` everywhere, and CRATE/specs/.. in the pages."""
 import glob, os, re, subprocess, sys
@@ -19,14 +19,20 @@ def add(node, line):
         open(node, 'w', encoding='utf-8').write(text + ('' if text.endswith('\n') or not text else '\n') + line + '\n')
 
 
+if modules == ['Laws']:
+    modules = sorted('Laws.' + f.split('/Laws/')[1][:-5].replace('/', '.') for f in glob.glob(f'crates/{crate}/specs/Laws/**/*.antt', recursive=True)) + ['Laws']
 for m in modules:
     os.makedirs(os.path.dirname(path('proofs', m)), exist_ok=True)
     subprocess.run(['git', 'mv', path('specs', m), path('proofs', m)], check=True)
     parts = m.split('.')
+    if 'Laws' in modules and m != 'Laws':
+        continue
     node = path('specs', '.'.join(parts[:-1]) if len(parts) > 1 else 'Lib')
     text = open(node, encoding='utf-8').read()
     open(node, 'w', encoding='utf-8').write(re.sub(rf'^pub mod {parts[-1]}\n', '', text, flags=re.M))
     node = path('proofs', '.'.join(parts[:-1])) if len(parts) > 1 else path('proofs', 'Lib')
+    if not os.path.exists(path('proofs', 'Lib')):
+        open(path('proofs', 'Lib'), 'w', encoding='utf-8').write('-- The laws of the definitions in specs/, on which the crates above go.\n')
     if len(parts) > 1:
         add(path('proofs', 'Lib'), f'pub mod {parts[0]}')
         if not os.path.exists(node):

@@ -5,7 +5,7 @@ use mathlib.Core.List.{List}
 use Rattle.sheet.specs.Outcomes.{result, followed_by}
 use Rattle.sheet.specs.declared.Refusal.{Refusal}
 use Rattle.kernel.specs.Calls.{InstantCall, given_of, in_rounds, rounds_call, scheduled_call, Leaves}
-use Rattle.kernel.specs.Laws.Demands.{gives_of, given_finished, given_rounds, demand2, demand3}
+use Rattle.kernel.proofs.Laws.Demands.{gives_of, given_finished, given_rounds, demand2, demand3}
 use Rattle.kernel.specs.declared.InRounds.{InRounds}
 use Rattle.kernel.specs.declared.InRounds.TheVariants.{Refused as RefusedInRounds, Accepted as AcceptedInRounds}
 use Rattle.kernel.specs.declared.Scheduled.{Scheduled}

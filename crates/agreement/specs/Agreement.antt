@@ -6,7 +6,7 @@ use Rattle.sheet.specs.Rows.{row_bytes}
 use Rattle.kernel.specs.Instants.{wire_count, next_memory, output_row}
 use Rattle.kernel.specs.Schedules.{IsSchedule}
 use Rattle.kernel.specs.Calls.{Given, given_of, InstantCall}
-use Rattle.kernel.specs.Laws.Demands.{given_finished, given_rounds}
+use Rattle.kernel.proofs.Laws.Demands.{given_finished, given_rounds}
 use Rattle.kernel.specs.declared.InRounds.{InRounds}
 use Rattle.kernel.specs.declared.InRounds.TheVariants.{Refused as RefusedInRounds, Accepted as AcceptedInRounds}
 use Rattle.kernel.specs.declared.Scheduled.{Scheduled}

@@ -4,7 +4,7 @@
 
 ghost use Rattle.std.specs.Prelude.{◌≡◌, length};
 ghost use Rattle.kernel.specs.Calls.{rounds_call, scheduled_call, Shows, Leaves};
-ghost use Rattle.kernel.specs.Laws.Previews.{PreviewAgrees};
+ghost use Rattle.kernel.proofs.Laws.Previews.{PreviewAgrees};
 ghost use Rattle.agreement.specs.Agreement.{Beside, BothGiven, Agreed};
 
 use kernel::{InRounds, Scheduled};

@@ -9,8 +9,8 @@ use Rattle.sheet.specs.Laws.Lists.{never}
 use Rattle.sheet.specs.declared.Refusal.{Refusal}
 use Rattle.kernel.specs.Schedules.{schedule_of, IsSchedule, pass}
 use Rattle.kernel.specs.Calls.{given_of, scheduled, scheduled_call, Leaves}
-use Rattle.kernel.specs.Laws.Schedules.{schedule_passed, passed_schedule}
-use Rattle.kernel.specs.Laws.Demands.{gives_of, given_finished, scheduled-accepted}
+use Rattle.kernel.proofs.Laws.Schedules.{schedule_passed, passed_schedule}
+use Rattle.kernel.proofs.Laws.Demands.{gives_of, given_finished, scheduled-accepted}
 use Rattle.kernel.specs.declared.Scheduled.TheVariants.{Refused, Accepted}
 use Rattle.schedule.specs.Orders.{ordered_answer}
 use Rattle.schedule.specs.declared.Ordered.TheVariants.{Refused as RefusedOrder, Passed as PassedOrder}

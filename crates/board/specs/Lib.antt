@@ -4,5 +4,5 @@ pub mod Marks
 pub mod Serving
 pub mod Ticks
 pub mod Runs
+pub mod Isolation
 pub mod Cases
-pub mod Laws

@@ -12,7 +12,7 @@ use Rattle.sheet.specs.Typing.{Pairwise}
 use Rattle.sheet.proofs.Laws.Memory.{pairwise-length, pairwise_append}
 use Rattle.buffers.specs.Tests.{Holds}
 use Rattle.board.specs.Parts.{joined, inputs_in}
-use Rattle.board.specs.Laws.Parts.{joined-more}
+use Rattle.board.proofs.Laws.Parts.{joined-more}
 use Rattle.board_check.specs.Steps.{Collected}
 
 -- there are as many as are taken

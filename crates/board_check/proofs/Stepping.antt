@@ -15,7 +15,7 @@ use Rattle.sheet_expressions.specs.Map.{CellNoted}
 use Rattle.buffers.specs.Laws.{noted-hold}
 use Rattle.board.specs.Boards.{placed_from, length_at, length_place, begin_of, bytes_of}
 use Rattle.board.specs.Parts.{joined, inputs_in, outputs_in}
-use Rattle.board.specs.Laws.Parts.{joined-count}
+use Rattle.board.proofs.Laws.Parts.{joined-count}
 use Rattle.board_check.specs.Found.{behind}
 use Rattle.board_check.specs.Steps.{further_of, Collected, Room, Further, Steps, stops, goes}
 use Rattle.board_check.specs.declared.Begin.{Begin}

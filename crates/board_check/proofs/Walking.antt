@@ -13,7 +13,7 @@ use Rattle.sheet.specs.Laws.Lists.{never}
 use Rattle.sheet.specs.declared.Refusal.{Refusal}
 use Rattle.board.specs.Boards.{placed_from, length_place, begin_of, bytes_of, frame_of, sheets_from}
 use Rattle.board.specs.Parts.{joined}
-use Rattle.board.specs.Laws.Boards.{frame-passed}
+use Rattle.board.proofs.Laws.Boards.{frame-passed}
 use Rattle.board_check.specs.Found.{behind, Between}
 use Rattle.board_check.specs.Steps.{Collected, Room, Further, Steps, stops, goes, Walks, passes}
 use Rattle.board_check.specs.declared.Begin.{Begin}

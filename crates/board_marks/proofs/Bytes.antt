@@ -9,7 +9,7 @@ use lib.Pow.{pow_mono}
 use Rattle.wires.specs.Sets.{member}
 use Rattle.wires.specs.Laws.{same-members}
 use Rattle.board.specs.Marks.{marks_of}
-use Rattle.board.specs.Laws.Marks.{marks-back, marks-below}
+use Rattle.board.proofs.Laws.Marks.{marks-back, marks-below}
 use Rattle.board_marks.specs.Sets.{MarksJust}
 
 -- what is due now or was before, of the first n

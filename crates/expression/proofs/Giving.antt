@@ -19,7 +19,7 @@ use Rattle.sheet.specs.declared.Cell.TheVariants.{NotStarted, Started}
 use Rattle.sheet.specs.Typing.{unary_type, operand_type}
 use Rattle.kernel.specs.Operations.{apply_unary, apply_binary, unary_of, binary_of}
 use Rattle.kernel.specs.Instant.{value, last_at, cell_at, held_or}
-use Rattle.kernel.specs.Laws.Typing.{unary_type_lem, binary-type}
+use Rattle.kernel.proofs.Laws.Typing.{unary_type_lem, binary-type}
 use Rattle.kernel.specs.declared.Value.TheVariants.{Known}
 use Rattle.operations.specs.Words.{unary_word, binary_word}
 use Rattle.leaves.specs.Words.{is_seen, pre_word}

@@ -13,8 +13,8 @@ use Rattle.sheet_walk.specs.declared.skip.Skipped.{Skipped}
 use Rattle.kernel.specs.Values.{truth, when_known}
 use Rattle.kernel.specs.Operations.{unary_value, binary_value}
 use Rattle.kernel.specs.Instant.{value, cell_at, known_or}
-use Rattle.kernel.specs.Laws.Switches.{current_state, state_run, present-value as present-equation, reset-value as reset-equation}
-use Rattle.kernel.specs.Laws.Switches.{machine-value as machine-equation}
+use Rattle.kernel.proofs.Laws.Switches.{current_state, state_run, present-value as present-equation, reset-value as reset-equation}
+use Rattle.kernel.proofs.Laws.Switches.{machine-value as machine-equation}
 use Rattle.kernel.specs.declared.Value.{Value}
 use Rattle.kernel.specs.declared.Value.TheVariants.{Unknown, Known}
 use Rattle.leaves.specs.declared.Valued.{Valued}

@@ -16,10 +16,10 @@ use Rattle.sheet.proofs.Laws.Typing.{passed_check}
 use Rattle.sheet.proofs.Laws.Memory.{memory_view}
 use Rattle.sheet_expressions.specs.Map.{StartsAt, EachHoldsJust, Sited, wires_of, run_of}
 use Rattle.kernel.specs.Instants.{reads_at}
-use Rattle.kernel.specs.Laws.Reads.{reads-of-tree}
+use Rattle.kernel.proofs.Laws.Reads.{reads-of-tree}
 use Rattle.kernel.specs.Calls.{Given, given_of}
-use Rattle.kernel.specs.Laws.Given.{given_by}
-use Rattle.kernel.specs.Laws.Memory.{given-valid}
+use Rattle.kernel.proofs.Laws.Given.{given_by}
+use Rattle.kernel.proofs.Laws.Memory.{given-valid}
 use Rattle.leaves.specs.Words.{word_count, InputsPut, KeptCells, LastsPut}
 use Rattle.sheet.specs.Laws.Lists.{never}
 use Rattle.sheet.specs.declared.Refusal.{Refusal}

@@ -22,8 +22,8 @@ use Rattle.sheet.specs.declared.Cell.TheVariants.{NotStarted, Started}
 use Rattle.sheet_expressions.specs.Map.{StartsAt, run_of}
 use Rattle.kernel.specs.Instant.{last_at, cell_at}
 use Rattle.kernel.specs.Instants.{lasts_of}
-use Rattle.kernel.specs.Laws.Typing.{valid-from-start}
-use Rattle.kernel.specs.Laws.Lasts.{kept-held}
+use Rattle.kernel.proofs.Laws.Typing.{valid-from-start}
+use Rattle.kernel.proofs.Laws.Lasts.{kept-held}
 use Rattle.leaves.specs.Words.{fixed_words, KeptCells, LastsPut}
 use Rattle.expression.specs.Places.{CellStands, CellsStand}
 use Rattle.expression.proofs.Views.{first-stands}

@@ -29,7 +29,7 @@ use Rattle.sheet.specs.declared.Cell.TheVariants.{NotStarted, Started}
 use Rattle.kernel.specs.Instant.{input_at, cell_at}
 use Rattle.kernel.specs.Calls.{Given, given_of}
 use Rattle.sheet.specs.Laws.Lists.{both}
-use Rattle.kernel.specs.Laws.Given.{given_by}
+use Rattle.kernel.proofs.Laws.Given.{given_by}
 use Rattle.leaves.specs.Words.{fixed_words, InputsPut}
 use Rattle.expression.specs.Places.{CellsStand, none, more}
 

@@ -13,7 +13,7 @@ use Rattle.sheet.specs.declared.Refusal.TheVariants.{StaysUnknown}
 use Rattle.kernel.specs.Systems.{Full}
 use Rattle.kernel.specs.Instants.{wire_count}
 use Rattle.kernel.specs.Calls.{given_of, place_of_loop, in_rounds, rounds_call}
-use Rattle.kernel.specs.Laws.Demands.{gives_of, SomeUnknown, full-or-unknown, given_finished, given_rounds, demand2}
+use Rattle.kernel.proofs.Laws.Demands.{gives_of, SomeUnknown, full-or-unknown, given_finished, given_rounds, demand2}
 use Rattle.kernel.specs.declared.Value.{Value}
 use Rattle.leaves.specs.Words.{fixed_words}
 use Rattle.rounds.specs.Running.{Holds, RunningUnder}

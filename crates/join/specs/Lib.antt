@@ -1,5 +1,5 @@
 pub mod Joined
 pub mod Bytes
 pub mod Calls
+pub mod Runs
 pub mod Cases
-pub mod Laws

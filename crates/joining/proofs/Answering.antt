@@ -13,7 +13,7 @@ use Rattle.sheet.specs.declared.Refusal.TheVariants.{OutputLength, JoinedLimit}
 use Rattle.sheet.specs.declared.Checked.TheVariants.{Refused as Stopped}
 use Rattle.join.specs.Bytes.{joined_bytes}
 use Rattle.join.specs.Calls.{is_above, join_answer, join_call, Leaves}
-use Rattle.join.specs.Laws.Bytes.{joined_length}
+use Rattle.join.proofs.Laws.Bytes.{joined_length}
 use Rattle.join.specs.declared.Joining.TheVariants.{FirstRefused, SecondRefused, Refused, Done}
 use Rattle.joining.specs.Counting.{Passes, Few}
 use Rattle.joining.specs.Writing.{Joinable}

@@ -13,11 +13,11 @@ use Rattle.sheet.proofs.Laws.Typing.{sheet-reads}
 use Rattle.join.specs.Joined.{shifted_numbers}
 use Rattle.join.specs.Bytes.{shifted_bytes, Sections, counted, sheet_bytes, section, behind, sections_of, joined_sections, joined_bytes}
 use Rattle.join.specs.declared.Counts.{Counts}
-use Rattle.join.specs.Laws.Bytes.{joined_length}
-use Rattle.join.specs.Laws.Limits.{limited}
-use Rattle.join.specs.Laws.Headers.{Ranged, done, byte}
-use Rattle.join.specs.Laws.Raised.{Raisable, raisable}
-use Rattle.join.specs.Laws.Sections.{inputs-counted, wires-counted, outputs-counted, sections_view}
+use Rattle.join.proofs.Laws.Bytes.{joined_length}
+use Rattle.join.proofs.Laws.Limits.{limited}
+use Rattle.join.proofs.Laws.Headers.{Ranged, done, byte}
+use Rattle.join.proofs.Laws.Raised.{Raisable, raisable}
+use Rattle.join.proofs.Laws.Sections.{inputs-counted, wires-counted, outputs-counted, sections_view}
 use Rattle.joining.specs.Counting.{Passes}
 use Rattle.joining.specs.Writing.{Joinable, HasSection, BothBegin, Puts}
 use Rattle.joining.proofs.Putting.{put_both, put-behind, put_all}

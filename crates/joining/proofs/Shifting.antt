@@ -9,8 +9,8 @@ use lib.ListN.{length, get_or, drop, set}
 use lib.Seq.{drop-cons}
 use Rattle.sheet.specs.Kinds.{body_of, kind_count}
 use Rattle.join.specs.Bytes.{raise_of, shifted_bytes}
-use Rattle.join.specs.Laws.Raised.{Raisable, kind, body}
-use Rattle.join.specs.Laws.Readings.{shifted-length}
+use Rattle.join.proofs.Laws.Raised.{Raisable, kind, body}
+use Rattle.join.proofs.Laws.Readings.{shifted-length}
 use Rattle.joining.specs.Writing.{Puts}
 use Rattle.joining.proofs.Putting.{PutSoFar, none-put, one-put, all-put}
 

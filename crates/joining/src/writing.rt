@@ -3,7 +3,7 @@ ghost use Rattle.std.specs.Prelude.{◌≡◌, ◌++◌, ◌+◌, ◌≤◌, ◌
 ghost use Rattle.sheet.specs.Kinds.{kind_count};
 ghost use Rattle.join.specs.Joined.{shifted_numbers};
 ghost use Rattle.join.specs.Bytes.{raise_of, shifted_bytes, counted, section, behind, joined_bytes};
-ghost use Rattle.join.specs.Laws.Raised.{Raisable};
+ghost use Rattle.join.proofs.Laws.Raised.{Raisable};
 ghost use Rattle.joining.specs.Writing.{Joinable, HasSection, BothBegin, CanRise, Puts};
 
 use sheet::kinds;

@@ -11,4 +11,3 @@ pub mod Schedules
 pub mod Depths
 pub mod Calls
 pub mod Cases
-pub mod Laws

@@ -15,7 +15,7 @@ use Rattle.sheet.specs.declared.Refusal.{Refusal}
 use Rattle.sheet.specs.declared.Checked.TheVariants.{Passed}
 use Rattle.sheet_expressions.specs.Map.{Mapped, wires_of, EachHoldsJust}
 use Rattle.kernel.specs.Instants.{wire_count, reads_at}
-use Rattle.kernel.specs.Laws.Reads.{reads-of-tree}
+use Rattle.kernel.proofs.Laws.Reads.{reads-of-tree}
 use Rattle.maker.specs.Reaching.{reads_of}
 use Rattle.maker.specs.Making.{maker_outcome, maker_call}
 use Rattle.maker.specs.Placing.{Makes}

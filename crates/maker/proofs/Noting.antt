@@ -14,7 +14,7 @@ use Rattle.sheet.specs.Lists.{among, all_among}
 use Rattle.sheet.specs.Laws.Lists.{never, either, each-among}
 use Rattle.sheet_expressions.specs.Map.{HoldsJust}
 use Rattle.kernel.specs.Depths.{deepest, Depths}
-use Rattle.kernel.specs.Laws.Depths.{deepest-over, deepest-within, deepest-append, deepest-same, one_more}
+use Rattle.kernel.proofs.Laws.Depths.{deepest-over, deepest-within, deepest-append, deepest-same, one_more}
 use Rattle.maker.specs.Placing.{noted}
 use Rattle.maker.specs.Laws.Queue.{same-or-other, among-one-more}
 use Rattle.maker.proofs.Sets.{taken_in, taken_out}

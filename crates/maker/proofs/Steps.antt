@@ -25,7 +25,7 @@ use Rattle.sheet_expressions.specs.Sets.{holds-none}
 use Rattle.closure.specs.Closures.{Rows, through, lowest_loop}
 use Rattle.kernel.specs.Instants.{wire_count}
 use Rattle.kernel.specs.Depths.{Depths, depth_of, greatest_depth}
-use Rattle.kernel.specs.Laws.Depths.{depths_are, deepest-along}
+use Rattle.kernel.proofs.Laws.Depths.{depths_are, deepest-along}
 use Rattle.maker.specs.Reaching.{reads_of, reads, reaches_itself}
 use Rattle.maker.specs.Making.{ready, placed_by, made_list, schedule_for, made_of}
 use Rattle.maker.specs.Placing.{Placed, Makes}

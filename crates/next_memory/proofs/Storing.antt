@@ -24,8 +24,8 @@ use Rattle.kernel.specs.Order.{value_at}
 use Rattle.kernel.specs.Systems.{Full, Solution}
 use Rattle.kernel.specs.Instant.{Environment, value, stored}
 use Rattle.kernel.specs.Instants.{stored_cells, under, next_memory}
-use Rattle.kernel.specs.Laws.Instants.{round-at}
-use Rattle.kernel.specs.Laws.Kept.{own_stored, tree-stored}
+use Rattle.kernel.proofs.Laws.Instants.{round-at}
+use Rattle.kernel.proofs.Laws.Kept.{own_stored, tree-stored}
 use Rattle.kernel.specs.declared.Value.{Value}
 use Rattle.kernel.specs.declared.Value.TheVariants.{Known}
 use Rattle.expression.specs.Places.{CellsStand}

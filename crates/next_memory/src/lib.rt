@@ -7,7 +7,7 @@ ghost use Rattle.std.proofs.lemmas.List.Edits.{sets};
 ghost use Rattle.sheet.specs.Data.{wire_type, datum_of};
 ghost use Rattle.sheet.specs.Sheets.{own_cells};
 ghost use Rattle.sheet.specs.Memory.{memory_bytes};
-ghost use Rattle.kernel.specs.Laws.Kept.{own_stored};
+ghost use Rattle.kernel.proofs.Laws.Kept.{own_stored};
 ghost use Rattle.kernel.specs.declared.Value.TheVariants.{Known};
 ghost use Rattle.rounds.specs.Settled.{Settled, stored_of};
 

@@ -17,10 +17,10 @@ use Rattle.kernel.specs.Order.{value_at, all_unknown}
 use Rattle.kernel.specs.Instant.{Environment}
 use Rattle.kernel.specs.Instants.{wire_count, value_of_wire, under}
 use Rattle.kernel.specs.Schedules.{pass_from, pass}
-use Rattle.kernel.specs.Laws.Order.{unknown-at}
-use Rattle.kernel.specs.Laws.Instants.{round-at}
-use Rattle.kernel.specs.Laws.Typing.{OnWires, fits_inherited}
-use Rattle.kernel.specs.Laws.Memory.{round-typed}
+use Rattle.kernel.proofs.Laws.Order.{unknown-at}
+use Rattle.kernel.proofs.Laws.Instants.{round-at}
+use Rattle.kernel.proofs.Laws.Typing.{OnWires, fits_inherited}
+use Rattle.kernel.proofs.Laws.Memory.{round-typed}
 use Rattle.kernel.specs.declared.Value.{Value}
 use Rattle.kernel.specs.declared.Value.TheVariants.{Unknown}
 use Rattle.leaves.specs.Words.{fixed_words}

@@ -19,13 +19,13 @@ use Rattle.kernel.specs.Order.{◌⊑*◌, value_at, known_count}
 use Rattle.kernel.specs.Order as Order
 use Rattle.kernel.specs.Systems as System
 use Rattle.kernel.specs.Instants.{wire_count, reads_at, rounds, finished}
-use Rattle.kernel.specs.Laws.Order.{unknown-at}
-use Rattle.kernel.specs.Laws.Counting.{count_same}
-use Rattle.kernel.specs.Laws.Rounds.{after-length, climbs, rounds_unique}
-use Rattle.kernel.specs.Laws.Keeping.{over-grown}
-use Rattle.kernel.specs.Laws.Due.{rests-unknown}
-use Rattle.kernel.specs.Laws.Instants.{round_monotone}
-use Rattle.kernel.specs.Laws.Memory.{after-typed}
+use Rattle.kernel.proofs.Laws.Order.{unknown-at}
+use Rattle.kernel.proofs.Laws.Counting.{count_same}
+use Rattle.kernel.proofs.Laws.Rounds.{after-length, climbs, rounds_unique}
+use Rattle.kernel.proofs.Laws.Keeping.{over-grown}
+use Rattle.kernel.proofs.Laws.Due.{rests-unknown}
+use Rattle.kernel.proofs.Laws.Instants.{round_monotone}
+use Rattle.kernel.proofs.Laws.Memory.{after-typed}
 use Rattle.kernel.specs.declared.Value.{Value}
 use Rattle.kernel.specs.declared.Value.TheVariants.{Unknown}
 use Rattle.leaves.specs.Words.{fixed_words}

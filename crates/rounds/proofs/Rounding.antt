@@ -16,8 +16,8 @@ use Rattle.sheet.specs.Laws.Lists.{never, both}
 use Rattle.kernel.specs.Values.{IsKnown, known}
 use Rattle.kernel.specs.Order.{value_at}
 use Rattle.kernel.specs.Systems.{round_over}
-use Rattle.kernel.specs.Laws.Keeping.{over-length, over-known, over-unknown}
-use Rattle.kernel.specs.Laws.Instants.{round-at}
+use Rattle.kernel.proofs.Laws.Keeping.{over-length, over-known, over-unknown}
+use Rattle.kernel.proofs.Laws.Instants.{round-at}
 use Rattle.kernel.specs.declared.Value.{Value}
 use Rattle.kernel.specs.declared.Value.TheVariants.{Unknown}
 use Rattle.leaves.specs.Words.{fixed_words}

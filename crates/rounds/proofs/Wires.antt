@@ -19,9 +19,9 @@ use Rattle.sheet.specs.declared.Cell.{Cell}
 use Rattle.kernel.specs.Values.{Fits, known-fits}
 use Rattle.kernel.specs.Instant.{Environment, value}
 use Rattle.kernel.specs.Instants.{value_of_wire, under}
-use Rattle.kernel.specs.Laws.Instants.{behind-first, value-of-wire}
-use Rattle.kernel.specs.Laws.Kept.{tree-value}
-use Rattle.kernel.specs.Laws.Typing.{OnWires}
+use Rattle.kernel.proofs.Laws.Instants.{behind-first, value-of-wire}
+use Rattle.kernel.proofs.Laws.Kept.{tree-value}
+use Rattle.kernel.proofs.Laws.Typing.{OnWires}
 use Rattle.kernel.specs.declared.Value.{Value}
 use Rattle.kernel.specs.declared.Value.TheVariants.{Known}
 use Rattle.expression.specs.Places.{value_of_word, Stands, CellsStand, more, Placement}

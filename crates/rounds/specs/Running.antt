@@ -12,7 +12,7 @@ use Rattle.kernel.specs.Order.{value_at}
 use Rattle.kernel.specs.Instant.{input_at, last_at}
 use Rattle.kernel.specs.Instants.{reads_at, lasts_of, round}
 use Rattle.kernel.specs.Calls.{Given}
-use Rattle.kernel.specs.Laws.Typing.{OnWires}
+use Rattle.kernel.proofs.Laws.Typing.{OnWires}
 use Rattle.kernel.specs.declared.Value.{Value}
 use Rattle.kernel.specs.declared.Value.TheVariants.{Unknown, Known}
 use Rattle.leaves.specs.Words.{fixed_words}

@@ -22,7 +22,7 @@ use Rattle.kernel.specs.Values.{is_true, datum_in}
 use Rattle.operations.specs.Words.{unary_word, binary_word}
 use Rattle.kernel.specs.Operations.{unary_of, binary_of}
 use Rattle.kernel.specs.Instant.{stored}
-use Rattle.kernel.specs.Laws.Switches.{present-stored as present-equation, reset-stored as reset-equation}
+use Rattle.kernel.proofs.Laws.Switches.{present-stored as present-equation, reset-stored as reset-equation}
 use Rattle.leaves.specs.Leaves.{known_by, leaf_word, last_word}
 use Rattle.leaves.specs.Words.{is_seen, pre_word}
 use Rattle.expression.specs.Places.{Placement, Gives}

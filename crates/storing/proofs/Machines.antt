@@ -19,7 +19,7 @@ use Rattle.sheet.specs.declared.Cell.TheVariants.{Started}
 use Rattle.sheet_walk.specs.declared.skip.Skipped.{Skipped}
 use Rattle.kernel.specs.Values.{truth, is_true}
 use Rattle.kernel.specs.Instant.{held, stored}
-use Rattle.kernel.specs.Laws.Switches.{machine-stored as machine-equation}
+use Rattle.kernel.proofs.Laws.Switches.{machine-stored as machine-equation}
 use Rattle.kernel.specs.declared.Value.{Value}
 use Rattle.kernel.specs.declared.Value.TheVariants.{Known}
 use Rattle.leaves.specs.Words.{is_second_state}

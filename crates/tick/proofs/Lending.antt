@@ -16,9 +16,9 @@ use Rattle.kernel.specs.declared.InRounds.{InRounds}
 use Rattle.board.specs.Boards.{length_at, length_place, bytes_of}
 use Rattle.board.specs.Parts.{joined, sheet_at, inputs_in, outputs_in, begin, size, cut, put, part, with_part, memory_part}
 use Rattle.board.specs.Serving.{every_cell, served_call}
-use Rattle.board.specs.Laws.Boards.{BoardRead, board_read, PassedBy, passed-by}
-use Rattle.board.specs.Laws.Parts.{part-within, joined-next}
-use Rattle.board.specs.Laws.Passing.{memory_part_lem}
+use Rattle.board.proofs.Laws.Boards.{BoardRead, board_read, PassedBy, passed-by}
+use Rattle.board.proofs.Laws.Parts.{part-within, joined-next}
+use Rattle.board.proofs.Laws.Passing.{memory_part_lem}
 use Rattle.board_check.specs.declared.Begin.{Begin}
 use Rattle.board_serving.specs.Fitting.{Fits}
 use Rattle.tick.specs.Ticking.{Parted, ServesPart}

@@ -19,9 +19,9 @@ use Rattle.board.specs.Marks.{marked, marks_of}
 use Rattle.board.specs.Parts.{passed_of}
 use Rattle.board.specs.Serving.{every_cell}
 use Rattle.board.specs.Ticks.{Turn, TickCall, is_due, due_sheet, served_answer, serve, tick_call}
-use Rattle.board.specs.Laws.Boards.{FramePassed, frame-passed, frame_why, board_read, passed-by}
-use Rattle.board.specs.Laws.Marks.{first-most, first-is}
-use Rattle.board.specs.Laws.Ticks.{Serves, tick_serves}
+use Rattle.board.proofs.Laws.Boards.{FramePassed, frame-passed, frame_why, board_read, passed-by}
+use Rattle.board.proofs.Laws.Marks.{first-most, first-is}
+use Rattle.board.proofs.Laws.Ticks.{Serves, tick_serves}
 use Rattle.board.specs.declared.Standing.{Standing}
 use Rattle.board.specs.declared.Ticked.TheVariants.{Refused, NoneDue}
 use Rattle.board_check.specs.Found.{Between}

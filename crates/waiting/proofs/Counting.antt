@@ -25,8 +25,8 @@ use Rattle.kernel.specs.Values.{truth, IsKnown, known}
 use Rattle.kernel.specs.Order.{value_at}
 use Rattle.kernel.specs.Instant.{Environment, cell_at}
 use Rattle.kernel.specs.Waits.{once_known, left_awaited, wires_awaited}
-use Rattle.kernel.specs.Laws.Switches.{present-awaited as present-equation, reset-awaited as reset-equation}
-use Rattle.kernel.specs.Laws.Waits.{known-passed}
+use Rattle.kernel.proofs.Laws.Switches.{present-awaited as present-equation, reset-awaited as reset-equation}
+use Rattle.kernel.proofs.Laws.Waits.{known-passed}
 use Rattle.kernel.specs.declared.Value.TheVariants.{Unknown, Known}
 use Rattle.leaves.specs.declared.Valued.{Valued}
 use Rattle.leaves.specs.Words.{is_seen}

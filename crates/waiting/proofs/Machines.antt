@@ -18,7 +18,7 @@ use Rattle.sheet_walk.specs.declared.skip.Skipped.{Skipped}
 use Rattle.kernel.specs.Values.{truth}
 use Rattle.kernel.specs.Instant.{held}
 use Rattle.kernel.specs.Waits.{once_known, wires_awaited}
-use Rattle.kernel.specs.Laws.Switches.{machine-awaited as machine-equation}
+use Rattle.kernel.proofs.Laws.Switches.{machine-awaited as machine-equation}
 use Rattle.leaves.specs.Words.{is_second_state}
 use Rattle.leaves.specs.declared.Valued.{Valued}
 use Rattle.expression.specs.Places.{Placement}

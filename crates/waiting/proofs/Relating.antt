@@ -16,8 +16,8 @@ use Rattle.kernel.specs.Values.{is_unknown}
 use Rattle.kernel.specs.Order.{value_at}
 use Rattle.kernel.specs.Waits.{wires_awaited, waits_for, lowest_waiting}
 use Rattle.kernel.specs.Calls.{place_of_loop}
-use Rattle.kernel.specs.Laws.Order.{known-not}
-use Rattle.kernel.specs.Laws.Kept.{tree-awaited}
+use Rattle.kernel.proofs.Laws.Order.{known-not}
+use Rattle.kernel.proofs.Laws.Kept.{tree-awaited}
 use Rattle.expression.specs.Places.{Placement}
 use Rattle.rounds.specs.Running.{RunningUnder}
 use Rattle.rounds.proofs.Rounding.{held-known, out-unknown}

@@ -1,6 +1,6 @@
 -- `preview_first` meets its contract, from those of the two calls.
 use borrow.Author.Rules.{rules}
-use Rattle.kernel.specs.Laws.Previews.{preview_agrees}
+use Rattle.kernel.proofs.Laws.Previews.{preview_agrees}
 use Rattle.agreement.proofs.preview_first.Statement.{statement}
 use Rattle.agreement.proofs.preview_first.Tie as tie
 

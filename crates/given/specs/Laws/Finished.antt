@@ -6,9 +6,9 @@ use Rattle.sheet.specs.Rows.{row_bytes}
 use Rattle.kernel.specs.Systems.{Full}
 use Rattle.kernel.specs.Instants.{output_row}
 use Rattle.kernel.specs.Calls.{Given}
-use Rattle.kernel.specs.Laws.Memory.{finished-typed}
-use Rattle.kernel.specs.Laws.Solutions.{finished_solution}
-use Rattle.kernel.specs.Laws.Demands.{given_finished}
+use Rattle.kernel.proofs.Laws.Memory.{finished-typed}
+use Rattle.kernel.proofs.Laws.Solutions.{finished_solution}
+use Rattle.kernel.proofs.Laws.Demands.{given_finished}
 use Rattle.leaves.specs.Words.{fixed_words}
 use Rattle.rounds.specs.Running.{Holds, RunningUnder}
 use Rattle.rounds.specs.Settled.{Settled}

@@ -21,10 +21,10 @@ use Rattle.kernel.specs.Instants.{wire_count}
 use Rattle.kernel.specs.Schedules.{schedule_of, IsSchedule}
 use Rattle.kernel.specs.Depths.{greatest_depth, Deepest}
 use Rattle.kernel.specs.Calls.{Given, given_of}
-use Rattle.kernel.specs.Laws.Given.{given_by}
-use Rattle.kernel.specs.Laws.Schedules.{schedule_passed, passes_schedule, passed_schedule, schedule_passes}
-use Rattle.kernel.specs.Laws.Demands.{Demand3, demand3}
-use Rattle.kernel.specs.Laws.Depths.{greatest-deepest, depth-few, RoundsWithin, rounds_within-depth}
+use Rattle.kernel.proofs.Laws.Given.{given_by}
+use Rattle.kernel.proofs.Laws.Schedules.{schedule_passed, passes_schedule, passed_schedule, schedule_passes}
+use Rattle.kernel.proofs.Laws.Demands.{Demand3, demand3}
+use Rattle.kernel.proofs.Laws.Depths.{greatest-deepest, depth-few, RoundsWithin, rounds_within-depth}
 use Rattle.closure.specs.Closures.{LowestLoop}
 use Rattle.maker.specs.Reaching.{Reads, reaches_itself}
 use Rattle.maker.specs.Making.{made_list, Schedule, schedule_for, made_of, maker_outcome, maker_call, made_answer}

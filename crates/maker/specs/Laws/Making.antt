@@ -18,8 +18,8 @@ use Rattle.sheet.specs.Laws.Lowest.{lowest-found, lowest-first, lowest-none}
 use Rattle.closure.specs.Closures.{Closure}
 use Rattle.closure.specs.Laws.{some-loop}
 use Rattle.kernel.specs.Schedules.{entry_at}
-use Rattle.kernel.specs.Laws.Schedules.{named-earlier}
-use Rattle.kernel.specs.Laws.Pigeonhole.{at_least}
+use Rattle.kernel.proofs.Laws.Schedules.{named-earlier}
+use Rattle.kernel.proofs.Laws.Pigeonhole.{at_least}
 use Rattle.maker.specs.Making.{ready, placed_by}
 
 module _ (reads_of : ℕ → List ℕ) (n : ℕ) where

@@ -12,8 +12,8 @@ use Rattle.closure.specs.Closures.{one, ◌then◌, Tells, lowest_loop, LowestLo
 use Rattle.closure.specs.Laws.{leads-from, finds-loop, found-lowest}
 use Rattle.kernel.specs.Instants.{wire_count}
 use Rattle.kernel.specs.Schedules.{entry_at, not_new, too_early, Earlier, IsSchedule}
-use Rattle.kernel.specs.Laws.Reads.{reader-below, reads-below}
-use Rattle.kernel.specs.Laws.Schedules.{passed_schedule, schedule_passes}
+use Rattle.kernel.proofs.Laws.Reads.{reader-below, reads-below}
+use Rattle.kernel.proofs.Laws.Schedules.{passed_schedule, schedule_passes}
 use Rattle.maker.specs.Reaching.{reads_of, reads, Reads, Reaches, reaches_itself}
 use Rattle.maker.specs.Making.{ready, placed_by, made_list}
 use Rattle.maker.specs.Laws.Making.{placed-length, placed_first, placed_at, LowestReady, lowest-ready, Filled}

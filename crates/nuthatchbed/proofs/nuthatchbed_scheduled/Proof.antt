@@ -3,7 +3,7 @@ use mathlib.Core.Path.{sym, ap, ◌∙◌}
 use native.Mathlib.Omega.{arith}
 use borrow.Author.Rules.{rules}
 use Rattle.kernel.specs.Calls.{packed_scheduled}
-use Rattle.kernel.specs.Laws.Answers.{scheduled-refusals}
+use Rattle.kernel.proofs.Laws.Answers.{scheduled-refusals}
 use Rattle.nuthatchbed.proofs.nuthatchbed_scheduled.Statement.{statement}
 use Rattle.nuthatchbed.proofs.nuthatchbed_scheduled.Tie as tie
 

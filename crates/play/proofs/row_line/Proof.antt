@@ -5,7 +5,7 @@ use native.Mathlib.Omega.{arith}
 use lib.ListN.{length}
 use lib.Seq.{length_front, length-take-le}
 use borrow.Author.Rules.{rules}
-use Rattle.kernel.specs.Laws.Answers.{rounds_refusals}
+use Rattle.kernel.proofs.Laws.Answers.{rounds_refusals}
 use Rattle.play.specs.Text.{zeros}
 use Rattle.play.proofs.Giving.{final}
 use Rattle.play.proofs.Instants.{row_fits, refused-text, accepted-line}

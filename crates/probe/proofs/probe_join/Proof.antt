@@ -2,7 +2,7 @@
 use mathlib.Core.Path.{sym, ap, subst, ◌∙◌}
 use borrow.Author.Rules.{rules}
 use Rattle.join.specs.Calls.{packed_joining, PackableJoining}
-use Rattle.join.specs.Laws.Calls.{join_packable}
+use Rattle.join.proofs.Laws.Calls.{join_packable}
 use Rattle.probe.proofs.probe_join.Statement.{statement}
 use Rattle.probe.proofs.probe_join.Tie as tie
 

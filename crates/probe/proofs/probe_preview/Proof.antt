@@ -2,7 +2,7 @@
 use mathlib.Core.Path.{sym, ap, subst, ◌∙◌}
 use borrow.Author.Rules.{rules}
 use Rattle.kernel.specs.Calls.{packed_rounds, Packable}
-use Rattle.kernel.specs.Laws.Answers.{rounds_packable}
+use Rattle.kernel.proofs.Laws.Answers.{rounds_packable}
 use Rattle.probe.proofs.probe_preview.Statement.{statement}
 use Rattle.probe.proofs.probe_preview.Tie as tie
 

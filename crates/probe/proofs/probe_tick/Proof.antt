@@ -9,8 +9,8 @@ use borrow.Author.Rules.{rules}
 use borrow.Author.Tests.{eq-eqb, ne_eqb, lt-ltb, le-ltb}
 use Rattle.board.specs.Serving.{every_cell}
 use Rattle.board.specs.Ticks.{packed_tick, PackableTick}
-use Rattle.board.specs.Laws.Refusals.{tick_packable}
-use Rattle.board.specs.Laws.Serving.{every-cell}
+use Rattle.board.proofs.Laws.Refusals.{tick_packable}
+use Rattle.board.proofs.Laws.Serving.{every-cell}
 use Rattle.tick.specs.Ticking.{Leaves}
 use Rattle.tick.specs.declared.Answered.{Answered}
 use Rattle.probe.specs.Ticks.{state_after, tick_in, probe_tick, Probes}

@@ -10,7 +10,7 @@ use Rattle.sheet.specs.Sheets.{Sheet}
 use Rattle.board.specs.Boards.{frame_of}
 use Rattle.board.specs.Parts.{passed_of}
 use Rattle.board.specs.Ticks.{due_sheet}
-use Rattle.board.specs.Laws.Boards.{frame-passed}
+use Rattle.board.proofs.Laws.Boards.{frame-passed}
 use Rattle.board_check.specs.Found.{Between}
 use Rattle.board_check.specs.Laws.Found.{found-refused, found_passed}
 use Rattle.tick.specs.Ticking.{turn_of}

@@ -3,3 +3,4 @@ pub mod Sets
 pub mod Noting
 pub mod Steps
 pub mod Calling
+pub mod Laws

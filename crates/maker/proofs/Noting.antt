@@ -16,7 +16,7 @@ use Rattle.sheet_expressions.specs.Map.{HoldsJust}
 use Rattle.kernel.specs.Depths.{deepest, Depths}
 use Rattle.kernel.proofs.Laws.Depths.{deepest-over, deepest-within, deepest-append, deepest-same, one_more}
 use Rattle.maker.specs.Placing.{noted}
-use Rattle.maker.specs.Laws.Queue.{same-or-other, among-one-more}
+use Rattle.maker.proofs.Laws.Queue.{same-or-other, among-one-more}
 use Rattle.maker.proofs.Sets.{taken_in, taken_out}
 
 -- of the wires of a set all but those that are left were passed, and this is the greatest depth noted for one that was

@@ -30,8 +30,8 @@ use Rattle.maker.specs.Reaching.{reads_of, reads, reaches_itself}
 use Rattle.maker.specs.Making.{ready, placed_by, made_list, schedule_for, made_of}
 use Rattle.maker.specs.Placing.{Placed, Makes}
 use Rattle.maker.specs.Queue.{Queue}
-use Rattle.maker.specs.Laws.Making.{placed-length, put_at, Filled}
-use Rattle.maker.specs.Laws.Schedules.{made_schedule, filled_none, stuck-low}
+use Rattle.maker.proofs.Laws.Making.{placed-length, put_at, Filled}
+use Rattle.maker.proofs.Laws.Schedules.{made_schedule, filled_none, stuck-low}
 use Rattle.maker.proofs.Noting.{Noted, none-noted}
 use Rattle.maker.specs.declared.Made.{Made}
 use Rattle.maker.specs.declared.Made.TheVariants.{Refused, Done}

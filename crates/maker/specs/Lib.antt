@@ -3,4 +3,3 @@ pub mod Making
 pub mod Cases
 pub mod Placing
 pub mod Queue
-pub mod Laws

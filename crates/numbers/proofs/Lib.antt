@@ -2,3 +2,4 @@
 pub mod Bits
 pub mod Results
 pub mod Stores
+pub mod Laws

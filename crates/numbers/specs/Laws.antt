@@ -1,6 +1,5 @@
 -- What holds of the numbers and of their words: the test of equality passes on the same numbers only, and a word that was stored is
 -- read back.
-pub mod Nearest
 use Rattle.std.specs.Prelude.{ℕ, zero, suc, ◌+◌, ◌/◌, ◌%◌, ◌≤◌, ◌<◌, ◌≡◌, refl, true, List, [], ◌∷◌, ◌++◌, ℤ, pos, negsuc, length, get_or, set, drop}
 use Rattle.std.proofs.Common.{ap, ◌∙◌, append-nil, arith, add-zero, add-suc, suc-add, length-set, drop_of_length-le, get_or-set_same, get_or-set_other, eqb-true, eq-eqb}
 use Rattle.std.proofs.lemmas.List.Edits.{sets, sets-eq}

@@ -1,7 +1,7 @@
 -- Document 02, K2: add, subtract and negate stop at the ends. What one of them gives is the nearest number of 32 bits to the exact result
 -- of its operands' numbers: wherever the expression stands, and of every wire in an accepted instant, from the answer of the call.
 use Rattle.std.specs.Prelude.{ℕ, suc, ◌+◌, ◌<◌, ◌≡◌, refl, Bool, false, List, ◌++◌, ℤ, neg_ℤ, ◌+ℤ◌, ◌-ℤ◌, length}
-use Rattle.numbers.specs.Laws.Nearest.{Nearest, settled-nearest}
+use Rattle.numbers.proofs.Laws.Nearest.{Nearest, settled-nearest}
 use Rattle.sheet.specs.Data.{ValueType, number}
 use Rattle.sheet.specs.Expressions.{Expression, unary, binary, kept, negative, sum, difference, cell_forms, cell_count}
 use Rattle.sheet.specs.Sheets.{expression_at, cells_before}

@@ -4,7 +4,7 @@ use Rattle.std.specs.Prelude.{◌≡◌, ℕ, zero, suc, ◌+◌, ◌<◌, Bool,
 use Rattle.std.proofs.Common.{subst, arith}
 use Rattle.std.proofs.Math.Option.{some}
 use Rattle.std.proofs.Math.ListN.{get_elem?}
-use Rattle.numbers.specs.Laws.Nearest.{settled-fits}
+use Rattle.numbers.proofs.Laws.Nearest.{settled-fits}
 use Rattle.sheet.specs.Data.{ValueType, boolean, IsOf}
 use Rattle.sheet.specs.Expressions.{Expression, constant, wire, input, last, unary, binary, conditional, switch, pre, fby, kept}
 use Rattle.sheet.specs.Expressions.{Unary, negation, negative}

@@ -5,7 +5,7 @@ use mir.Syntax.{w32}
 use mir.Facts.{to_z-of_z}
 use borrow.Author.Rules.{sfits_of}
 use Rattle.numbers.specs.Numbers.{settled}
-use Rattle.numbers.specs.Laws.Nearest.{settled-inside}
+use Rattle.numbers.proofs.Laws.Nearest.{settled-inside}
 use Rattle.numbers.proofs.Results.{opposite-fits, opposite-of-least}
 use Rattle.numbers.proofs.negate.Goals as goal
 

@@ -9,7 +9,7 @@ use mir.Val.{SFits}
 use mir.Facts.{to_z-of_z}
 use borrow.Author.Tests.{ltb-false}
 use Rattle.numbers.specs.Numbers.{greatest, least}
-use Rattle.numbers.specs.Laws.Nearest.{settled-inside, settled-above, settled-below}
+use Rattle.numbers.proofs.Laws.Nearest.{settled-inside, settled-above, settled-below}
 use Rattle.numbers.proofs.settle.Goals as goal
 
 in_range_lem : (z : ℤ) → lt_z greatest z ≡ false → lt_z z least ≡ false → SFits w32 z

@@ -9,7 +9,7 @@ packed-requires c = subst Packable (sym c.instant-answer.ensures.answers) (round
 
 pub returns : goal.returns
 returns c = let left = c.instant-answer.ensures in
- record {
+    record {
       value = c.packed.ensures ∙ ap packed_rounds left.answers;
       memory_after = left.stores;
       output_after = left.writes;

@@ -13,7 +13,7 @@ packed-requires c =
 
 pub returns-in-Refused : goal.returns-in-Refused
 returns-in-Refused c = let ensured = c.instant.ensures in
- record {
+    record {
       value = c.packed.ensures ∙ ap packed_scheduled (sym c.in-Refused.is ∙ ensured.answers);
       memory_after = ensured.stores;
       output_after = ensured.writes;
@@ -21,7 +21,7 @@ returns-in-Refused c = let ensured = c.instant.ensures in
 
 pub returns-in-Accepted : goal.returns-in-Accepted
 returns-in-Accepted c = let ensured = c.instant.ensures in
- record {
+    record {
       value = ap packed_scheduled (sym c.in-Accepted.is ∙ ensured.answers);
       memory_after = ensured.stores;
       output_after = ensured.writes;

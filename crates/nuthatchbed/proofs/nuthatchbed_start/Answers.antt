@@ -12,14 +12,14 @@ packed-requires c =
 
 pub returns-in-Refused : goal.returns-in-Refused
 returns-in-Refused c = let ensured = c.start.ensures in
- record {
+    record {
       value = c.packed.ensures ∙ ap packed_started (sym c.in-Refused.is ∙ ensured.value);
       memory_after = ensured.memory_after;
     }
 
 pub returns-in-Done : goal.returns-in-Done
 returns-in-Done c = let ensured = c.start.ensures in
- record {
+    record {
       value = ap packed_started (sym c.in-Done.is ∙ ensured.value);
       memory_after = ensured.memory_after;
     }

@@ -3,7 +3,7 @@ use mathlib.Core.Path.{sym, ap, ◌∙◌}
 use native.Mathlib.Omega.{arith}
 use borrow.Author.Rules.{rules}
 use Rattle.maker.specs.Making.{packed_made}
-use Rattle.maker.specs.Laws.Calls.{depth-bounded, maker_bounded}
+use Rattle.maker.proofs.Laws.Calls.{depth-bounded, maker_bounded}
 use Rattle.probe.proofs.probe_schedule.Statement.{statement}
 use Rattle.probe.proofs.probe_schedule.Tie as tie
 

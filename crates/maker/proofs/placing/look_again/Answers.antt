@@ -3,7 +3,7 @@ use mathlib.Core.Path.{refl, ◌∙◌}
 use native.Mathlib.Omega.{arith}
 use Rattle.wires.specs.Sets.{member}
 use Rattle.wires.specs.Laws.{lowest-present-rises}
-use Rattle.maker.specs.Laws.Queue.{queue_left}
+use Rattle.maker.proofs.Laws.Queue.{queue_left}
 use Rattle.maker.proofs.Sets.{taken_out, taken_in, none_left}
 use Rattle.maker.proofs.placing.look_again.Goals as goal
 

@@ -2,7 +2,7 @@
 use mathlib.Core.Path.{refl}
 use native.Mathlib.Omega.{arith}
 use lib.ListN.{length-set}
-use Rattle.maker.specs.Laws.Queue.{looked_ready, looked_waits}
+use Rattle.maker.proofs.Laws.Queue.{looked_ready, looked_waits}
 use Rattle.maker.proofs.Steps.{nothing-missing, something_missing}
 use Rattle.maker.proofs.placing.look_at.Goals as goal
 

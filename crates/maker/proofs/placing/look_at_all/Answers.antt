@@ -5,7 +5,7 @@ use mathlib.Core.Bool.{true}
 use mathlib.Core.List.{[]}
 use native.Mathlib.Omega.{arith}
 use Rattle.sheet_expressions.specs.Sets.{holds-none}
-use Rattle.maker.specs.Laws.Queue.{queue_left, queue_first}
+use Rattle.maker.proofs.Laws.Queue.{queue_left, queue_first}
 use Rattle.maker.proofs.Steps.{between, in_between, bounds-between, above}
 use Rattle.maker.proofs.placing.look_at_all.Goals as goal
 

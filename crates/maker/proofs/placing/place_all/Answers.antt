@@ -8,7 +8,7 @@ use native.Mathlib.Omega.{arith}
 use lib.ListN.{length, length-set, length-replicate}
 use Rattle.sheet_expressions.specs.Sets.{holds_more}
 use Rattle.maker.specs.Making.{placed_by}
-use Rattle.maker.specs.Laws.Queue.{in_queue, lowest_in_queue, queue_empty, placed-next}
+use Rattle.maker.proofs.Laws.Queue.{in_queue, lowest_in_queue, queue_empty, placed-next}
 use Rattle.maker.proofs.Noting.{nothing-noted, one-noted}
 use Rattle.maker.proofs.Steps.{nobody-waits, first-turn, next-turn, last_turn, ready-parts}
 use Rattle.maker.proofs.placing.place_all.Goals as goal

@@ -16,8 +16,8 @@ use Rattle.kernel.proofs.Laws.Reads.{reader-below, reads-below}
 use Rattle.kernel.proofs.Laws.Schedules.{passed_schedule, schedule_passes}
 use Rattle.maker.specs.Reaching.{reads_of, reads, Reads, Reaches, reaches_itself}
 use Rattle.maker.specs.Making.{ready, placed_by, made_list}
-use Rattle.maker.specs.Laws.Making.{placed-length, placed_first, placed_at, LowestReady, lowest-ready, Filled}
-use Rattle.maker.specs.Laws.Making.{stuck-loops, acyclic_filled}
+use Rattle.maker.proofs.Laws.Making.{placed-length, placed_first, placed_at, LowestReady, lowest-ready, Filled}
+use Rattle.maker.proofs.Laws.Making.{stuck-loops, acyclic_filled}
 
 module _ (sheet : Sheet) where
   tells : Tells (reads sheet) (Reads sheet)

@@ -28,8 +28,8 @@ use Rattle.kernel.proofs.Laws.Depths.{greatest-deepest, depth-few, RoundsWithin,
 use Rattle.closure.specs.Closures.{LowestLoop}
 use Rattle.maker.specs.Reaching.{Reads, reaches_itself}
 use Rattle.maker.specs.Making.{made_list, Schedule, schedule_for, made_of, maker_outcome, maker_call, made_answer}
-use Rattle.maker.specs.Laws.Schedules.{lowest-loop, schedule_acyclic, LowestEverywhere, LeastEverywhere}
-use Rattle.maker.specs.Laws.Schedules.{made-lowest, made-least, made_schedule, none_filled}
+use Rattle.maker.proofs.Laws.Schedules.{lowest-loop, schedule_acyclic, LowestEverywhere, LeastEverywhere}
+use Rattle.maker.proofs.Laws.Schedules.{made-lowest, made-least, made_schedule, none_filled}
 use Rattle.maker.specs.declared.Made.TheVariants.{Refused, Done}
 
 -- no list passes the checks 17 to 19

@@ -2,10 +2,9 @@
 use Prim.Native.Nat.{ℕ, ◌*◌, ◌≤◌}
 use mathlib.Core.Path.{◌≡◌, refl, sym, ap, ◌∙◌}
 use mathlib.Core.Bool.{true, false}
-use mathlib.Core.List.{List, ◌++◌, append-nil}
+use mathlib.Core.List.{List}
 use native.Mathlib.Omega.{arith}
-use lib.ListN.{length, take, drop, drop_of_length-le}
-use lib.Seq.{take_all}
+use lib.ListN.{length}
 use borrow.Author.Tests.{eq-eqb}
 use Rattle.sheet.specs.Outcomes.{Outcome, refusal, result, followed_by, holds_after}
 use Rattle.sheet.specs.Memory.{start_outcome, start_call}
@@ -48,21 +47,14 @@ module _ {s own : List ℕ} (fits : Fits s own) (fresh input output : List ℕ) 
       }
 
   -- accepted, it gets what the instant stored
-  pub anew-accepted : {rounds : ℕ} → answer ≡ Accepted rounds → (copied : List ℕ) → length next ≡ length own
-      → copied ≡ take (length next) next ++ drop (length next) own
+  pub anew-accepted : {rounds : ℕ} → answer ≡ Accepted rounds → {copied : List ℕ} → copied ≡ next
       → Leaves (served_call every_cell true s own input output) (Accepted rounds) copied row
   unfolding served_call
-  anew-accepted e copied whole puts =
+  anew-accepted e copies =
       let is : (rounds_call s (every_cell s own) input output).answer ≡ Accepted _ = sym (rw from_start at leaves.answers) ∙ e in
-      let rest : length own ≤ length next = omega arith in
-      let all : copied ≡ next = puts ∙ rw (
-        take_all (length next) next (omega arith),
-        drop_of_length-le own rest,
-        append-nil,
-      ) in
       record {
         answers = sym is;
-        stores = all ∙ rw from_start at leaves.stores
+        stores = copies ∙ rw from_start at leaves.stores
             ∙ sym (ap (λ x. stored_in x (rounds_call s (every_cell s own) input output).memory own) is);
         writes = rw from_start at leaves.writes;
       }

@@ -49,6 +49,11 @@ module _ (bytes : List ℕ) where
       → answer ≡ check_of (sheet_in bytes)
   own-answer is e = e ∙ ap check_of (own-sheet is)
 
+  -- that is, that it passes them
+  pub own-passed : {n i w o k : ℕ} {answer : Checked} → n ≡ length_at bytes → answer ≡ check_of (take (2 + n - 2) (drop 2 bytes))
+      → answer ≡ Passed i w o k → check_of (sheet_in bytes) ≡ Passed i w o k
+  own-passed is e known = sym (own-answer is e) ∙ known
+
 -- the counts of a sheet that passes the check are few
 pub record Few (inputs wires outputs cells : ℕ) : Type 0 where
   pub inputs-few : inputs ≤ 16

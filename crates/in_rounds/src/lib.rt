@@ -10,7 +10,7 @@ ghost use Rattle.in_rounds.specs.Showing.{Prepares};
 
 use given::Given;
 use kernel::InRounds;
-use sheet::{Refusal, refusals};
+use sheet::Refusal;
 
 // What an instant in rounds comes to before anything is stored: a refusal, or the rounds, and where the types of the wires stand.
 #[derive(Clone, Copy)]
@@ -142,7 +142,7 @@ pub fn packed(answer: InRounds) -> u32
     ensures { result ≡ packed_rounds answer }
 {
     match answer {
-        InRounds::Refused { why, place } => refusals::packed(why, place),
+        InRounds::Refused { why, place } => why.at(place).packed(),
         InRounds::Accepted { rounds } => rounds as u32,
     }
 }

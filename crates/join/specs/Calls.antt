@@ -7,7 +7,7 @@ use Rattle.sheet.specs.declared.Checked.TheVariants.{Refused as RefusedSheet, Pa
 use Rattle.sheet.specs.declared.Refusal.{Refusal}
 use Rattle.sheet.specs.declared.Refusal.TheVariants.{OutputLength, JoinedLimit}
 use Rattle.join.specs.Bytes.{joined_bytes}
-use Rattle.join.specs.declared.Counts.{Counts}
+use Rattle.sheet.specs.declared.Counts.{Counts}
 use Rattle.join.specs.declared.Joining.{Joining}
 use Rattle.join.specs.declared.Joining.TheVariants.{FirstRefused, SecondRefused, Refused, Done}
 

@@ -1,4 +1,4 @@
-// Two sheets into one: what joining answers, and the counts of a sheet. The definitions and theorems are in specs/. Rests on `sheet` for refusals.
+// Two sheets into one: what joining answers. The definitions and theorems are in specs/. Rests on `sheet` for refusals.
 #![tactic(auto)]
 
 use sheet::Refusal;
@@ -11,13 +11,4 @@ pub enum Joining {
     SecondRefused { why: Refusal, place: usize },
     Refused { why: Refusal, place: usize },
     Done,
-}
-
-// The four counts that the check of a sheet answers.
-#[derive(Clone, Copy)]
-pub struct Counts {
-    pub inputs: usize,
-    pub wires: usize,
-    pub outputs: usize,
-    pub cells: usize,
 }

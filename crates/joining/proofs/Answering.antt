@@ -18,7 +18,7 @@ use Rattle.join.specs.declared.Joining.TheVariants.{FirstRefused, SecondRefused,
 use Rattle.joining.specs.Counting.{Passes, Few}
 use Rattle.joining.specs.Writing.{Joinable}
 use Rattle.joining.proofs.Cutting.{found-by}
-use Rattle.join.specs.declared.Counts.{Counts}
+use Rattle.sheet.specs.declared.Counts.{Counts}
 
 pub first_stops : (s t buffer : List ℕ) {why : Refusal} {place : ℕ} → check_of s ≡ Stopped why place
     → Leaves (join_call s t buffer) (FirstRefused why place) buffer

@@ -12,7 +12,7 @@ use Rattle.sheet.proofs.Laws.Checked.{CheckPassed, check_passed}
 use Rattle.sheet.proofs.Laws.Typing.{sheet-reads}
 use Rattle.join.specs.Joined.{shifted_numbers}
 use Rattle.join.specs.Bytes.{shifted_bytes, Sections, counted, sheet_bytes, section, behind, sections_of, joined_sections, joined_bytes}
-use Rattle.join.specs.declared.Counts.{Counts}
+use Rattle.sheet.specs.declared.Counts.{Counts}
 use Rattle.join.proofs.Laws.Bytes.{joined_length}
 use Rattle.join.proofs.Laws.Limits.{limited}
 use Rattle.join.proofs.Laws.Headers.{Ranged, done, byte}

@@ -2,7 +2,7 @@
 use Rattle.std.specs.Prelude.{ℕ, ◌≤◌, ◌≡◌, List}
 use Rattle.sheet.specs.Sheets.{check_of}
 use Rattle.join.specs.Calls.{passed_with}
-use Rattle.join.specs.declared.Counts.{Counts}
+use Rattle.sheet.specs.declared.Counts.{Counts}
 
 -- the sheet passes the check, which answers these counts
 abbrev pub Passes : (s : List ℕ) (counts : Counts) → Type 0

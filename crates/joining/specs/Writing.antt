@@ -3,7 +3,7 @@ use Rattle.std.specs.Prelude.{ℕ, ◌+◌, ◌≤◌, ◌<◌, ◌≡◌, false
 use Rattle.sheet.specs.Lists.{Every}
 use Rattle.join.specs.Bytes.{section}
 use Rattle.join.specs.Calls.{is_above}
-use Rattle.join.specs.declared.Counts.{Counts}
+use Rattle.sheet.specs.declared.Counts.{Counts}
 use Rattle.joining.specs.Counting.{Passes}
 
 -- both sheets pass, no joined count or length is above its limit, and the room is the joined length: the two headers have six counts, the

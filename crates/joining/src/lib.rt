@@ -8,8 +8,8 @@ ghost use Rattle.std.specs.Prelude.{◌≡◌};
 ghost use Rattle.join.specs.Calls.{is_above, join_call, Leaves, packed_joining, PackableJoining};
 ghost use Rattle.joining.specs.Counting.{Passes, Few};
 
-use join::{Counts, Joining};
-use sheet::{Checked, Refusal, refusals};
+use join::Joining;
+use sheet::{Checked, Counts, Refusal};
 
 // Joins two sheets: 1 to 11 of the first, then of the second, 23 where a joined count or length is above its limit, 16 where the buffer has
 // not the joined length; else the buffer gets the joined sheet.
@@ -105,9 +105,9 @@ pub fn packed(answer: Joining) -> u32
     ensures { result ≡ packed_joining answer }
 {
     match answer {
-        Joining::FirstRefused { why, place } => refusals::packed(why, place),
-        Joining::SecondRefused { why, place } => 2147483648 + refusals::packed(why, place),
-        Joining::Refused { why, place } => refusals::packed(why, place),
+        Joining::FirstRefused { why, place } => why.at(place).packed(),
+        Joining::SecondRefused { why, place } => 2147483648 + why.at(place).packed(),
+        Joining::Refused { why, place } => why.at(place).packed(),
         Joining::Done => 0,
     }
 }

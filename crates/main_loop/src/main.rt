@@ -5,7 +5,6 @@
 ghost use Rattle.std.specs.Prelude.{◌≡◌, ◌≤◌, ◌<◌, length};
 
 use board::{Standing, Ticked};
-use sheet::refusals;
 use std::io;
 use text::put_bytes;
 
@@ -145,7 +144,7 @@ fn print_answer(rt: &impl Print, answer: Ticked, output: &[u8]) -> io::Result<()
 {
     match answer {
         Ticked::Refused { why, place } => {
-            print_number(rt, b": refused ", refusals::number(why) as usize)?;
+            print_number(rt, b": refused ", why.number() as usize)?;
             print_number(rt, b" at ", place)
         }
         Ticked::NoneDue => rt.write_all(b": none"),

@@ -168,7 +168,7 @@ fn refused_line(text: &mut [u8], why: Refusal, place: usize) -> usize
     requires { (256 ≤ length text.old) × (place ≤ 4096) }
     ensures { Holds text.old (refused_line (number_of why) place) text.new result }
 {
-    lines::refused_line(text, sheet::refusals::number(why), place as u32)
+    lines::refused_line(text, why.number(), place as u32)
 }
 
 // Gives the line of the next instant, or of the bytes not used where none is due.

@@ -1,5 +1,6 @@
 -- What a call comes to: a refusal with its place, or a result. The numbers of refusals stand here and nowhere else.
-use Rattle.std.specs.Prelude.{ℕ, zero, suc, ◌+◌, ◌*◌, Bool, cond, List, eqb, ltb}
+use Rattle.std.specs.Prelude.{ℕ, zero, suc, ◌+◌, ◌*◌, Bool, cond, List, Result, Ok, Err, eqb, ltb}
+use Rattle.sheet.specs.declared.Refused.{Refused}
 use Rattle.sheet.specs.declared.Refusal.{Refusal}
 use Rattle.sheet.specs.declared.Refusal.TheVariants.{SheetLength, Cut, CountRange, TypeByte, OutputWire}
 use Rattle.sheet.specs.declared.Refusal.TheVariants.{Kind, Body, Level, TypeAsked, CellLimit, LeftOver}
@@ -38,6 +39,15 @@ packed_refusal why place = number_of why * 65536 + place
 pub data Outcome (A : Type 0) : Type 0 where
   refusal : Refusal → (place : ℕ) → Outcome A
   result : A → Outcome A
+
+-- a refusal as a call answers it
+abbrev pub refused_at : {A : Type 0} → Refusal → ℕ → Result A Refused
+refused_at why place = Err (record { why = why; place = place })
+
+-- what a call answers of an outcome
+abbrev pub answer_of : {A : Type 0} → Outcome A → Result A Refused
+answer_of (refusal why place) = refused_at why place
+answer_of (result a) = Ok a
 
 -- a refusal ends the call
 abbrev pub followed_by : {A B : Type 0} → Outcome A → (A → Outcome B) → Outcome B

@@ -6,7 +6,7 @@ pub mod bodies;
 pub mod data;
 pub mod kinds;
 pub mod memory;
-pub mod refusals;
+mod refusals;
 
 // What an input, a constant, a cell or a known wire holds.
 #[derive(Clone, Copy)]
@@ -22,32 +22,48 @@ pub enum Cell {
     Started(Datum),
 }
 
-// Why a call refuses, in the order of the numbers: document 01's from 1 to 20, then those of the change requests.
+// Why a call refuses, each by its number: document 01's from 1 to 20, then those of the change requests.
 #[derive(Clone, Copy)]
 pub enum Refusal {
-    SheetLength,
-    Cut,
-    CountRange,
-    TypeByte,
-    OutputWire,
-    Kind,
-    Body,
-    Level,
-    TypeAsked,
-    CellLimit,
-    LeftOver,
-    MemoryLength,
-    CellContent,
-    InputLength,
-    InputContent,
-    OutputLength,
-    ScheduleLength,
-    ScheduleEntry,
-    ScheduleOrder,
-    StaysUnknown,
-    NoSchedule,
-    BoardFrame,
-    JoinedLimit,
+    SheetLength = 1,
+    Cut = 2,
+    CountRange = 3,
+    TypeByte = 4,
+    OutputWire = 5,
+    Kind = 6,
+    Body = 7,
+    Level = 8,
+    TypeAsked = 9,
+    CellLimit = 10,
+    LeftOver = 11,
+    MemoryLength = 12,
+    CellContent = 13,
+    InputLength = 14,
+    InputContent = 15,
+    OutputLength = 16,
+    ScheduleLength = 17,
+    ScheduleEntry = 18,
+    ScheduleOrder = 19,
+    StaysUnknown = 20,
+    NoSchedule = 21,
+    BoardFrame = 22,
+    JoinedLimit = 23,
+}
+
+// A refusal of a call: why, and at which place.
+#[derive(Clone, Copy)]
+pub struct Refused {
+    pub why: Refusal,
+    pub place: usize,
+}
+
+// The four counts of a sheet that passes the check.
+#[derive(Clone, Copy)]
+pub struct Counts {
+    pub inputs: usize,
+    pub wires: usize,
+    pub outputs: usize,
+    pub cells: usize,
 }
 
 // What reading at a place finds: a refusal, or the place past what was read and a number. The number is a count or a byte of

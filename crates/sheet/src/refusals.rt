@@ -2,43 +2,30 @@
 ghost use Rattle.std.specs.Prelude.{◌≡◌, ◌<◌};
 ghost use Rattle.sheet.specs.Outcomes.{number_of, packed_refusal};
 
-use crate::Refusal;
+use crate::{Refusal, Refused};
 
-// The number of a refusal.
-pub fn number(why: Refusal) -> u32
-    ensures { result ≡ number_of why }
-{
-    match why {
-        Refusal::SheetLength => 1,
-        Refusal::Cut => 2,
-        Refusal::CountRange => 3,
-        Refusal::TypeByte => 4,
-        Refusal::OutputWire => 5,
-        Refusal::Kind => 6,
-        Refusal::Body => 7,
-        Refusal::Level => 8,
-        Refusal::TypeAsked => 9,
-        Refusal::CellLimit => 10,
-        Refusal::LeftOver => 11,
-        Refusal::MemoryLength => 12,
-        Refusal::CellContent => 13,
-        Refusal::InputLength => 14,
-        Refusal::InputContent => 15,
-        Refusal::OutputLength => 16,
-        Refusal::ScheduleLength => 17,
-        Refusal::ScheduleEntry => 18,
-        Refusal::ScheduleOrder => 19,
-        Refusal::StaysUnknown => 20,
-        Refusal::NoSchedule => 21,
-        Refusal::BoardFrame => 22,
-        Refusal::JoinedLimit => 23,
+impl Refusal {
+    // Its number.
+    pub fn number(self) -> u32
+        ensures { result ≡ number_of self }
+    {
+        self as u32
+    }
+
+    // The refusal at a place.
+    pub fn at(self, place: usize) -> Refused
+        ensures { result ≡ record { why = self; place = place } }
+    {
+        Refused { why: self, place }
     }
 }
 
-// A refusal as one number, which keeps number and place apart.
-pub fn packed(why: Refusal, place: usize) -> u32
-    requires { place < 65536 }
-    ensures { result ≡ packed_refusal why place }
-{
-    number(why) * 65536 + place as u32
+impl Refused {
+    // The refusal as one number, which keeps number and place apart.
+    pub fn packed(self) -> u32
+        requires { self.place < 65536 }
+        ensures { result ≡ packed_refusal self.why self.place }
+    {
+        self.why.number() * 65536 + self.place as u32
+    }
 }

@@ -13,7 +13,7 @@ use board::{Standing, Ticked};
 use board_check::{Begin, Found};
 use board_frame::Framed;
 use kernel::InRounds;
-use sheet::{Refusal, refusals};
+use sheet::Refusal;
 use wires::Wires;
 
 // What a tick gives: its answer, and the stored marks and the number of the sheet served last, for the next one.
@@ -139,9 +139,9 @@ pub fn packed(answer: Ticked) -> u32
     ensures { result ≡ packed_tick answer }
 {
     match answer {
-        Ticked::Refused { why, place } => refusals::packed(why, place),
+        Ticked::Refused { why, place } => why.at(place).packed(),
         Ticked::NoneDue => 0,
         Ticked::Served { sheet: _, rounds } => rounds as u32,
-        Ticked::LeftUnknown { sheet: _, wire } => refusals::packed(Refusal::StaysUnknown, wire),
+        Ticked::LeftUnknown { sheet: _, wire } => Refusal::StaysUnknown.at(wire).packed(),
     }
 }

@@ -25,7 +25,7 @@ use Rattle.kernel.specs.Calls.{rounds_call, scheduled_call}
 use Rattle.join.specs.Joined.{shifted_numbers, joined_list, joined}
 use Rattle.join.specs.Bytes.{joined_bytes}
 use Rattle.join.specs.Calls.{passed_with, is_above, join_answer, JoinCall, join_call, PackableJoining}
-use Rattle.join.specs.declared.Counts.{Counts}
+use Rattle.sheet.specs.declared.Counts.{Counts}
 use Rattle.join.specs.declared.Joining.{Joining}
 use Rattle.join.specs.declared.Joining.TheVariants.{FirstRefused, SecondRefused, Refused, Done}
 use Rattle.join.proofs.Laws.Buffers.{memory_bytes-joined}

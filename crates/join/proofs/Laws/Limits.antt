@@ -4,7 +4,7 @@ use Rattle.std.proofs.Common.{ltb-false}
 use Rattle.sheet.specs.Sheets.{Sheet, sheet_forms}
 use Rattle.sheet.specs.Laws.Lists.{neither}
 use Rattle.join.specs.Calls.{is_above}
-use Rattle.join.specs.declared.Counts.{Counts}
+use Rattle.sheet.specs.declared.Counts.{Counts}
 
 -- the counts of a sheet, as the check answers them
 abbrev pub counts_of : Sheet → Counts

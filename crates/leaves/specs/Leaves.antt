@@ -1,9 +1,10 @@
 -- What a leaf stands for, a constant, a wire or an input: whether its value is known, and its word; and the word of kind 18.
-use Rattle.std.specs.Prelude.{ℕ, ◌+◌, ◌<◌, ◌≡◌, Bool, true, cond, List, eqb, get_or}
+use Rattle.std.specs.Prelude.{ℕ, ◌+◌, ◌<◌, ◌≡◌, Bool, true, cond, List, Option, Some, None, eqb, get_or}
 use Rattle.wires.specs.Sets.{member}
 use Rattle.sheet.specs.Kinds.{body_of}
 use Rattle.sheet.specs.Readings.{body_at, Whole}
 use Rattle.leaves.specs.Words.{first_input, first_last}
+use Rattle.sheet_walk.specs.declared.Place.{Place}
 use Rattle.leaves.specs.declared.Valued.{Valued}
 
 -- a leaf stands at the place; a wire that it names is one of 64, and an input one of 16
@@ -31,17 +32,19 @@ module _ (sheet words : List ℕ) where
       (cond (eqb (get_or sheet at 0) 3) (get_or words (first_input + body_at sheet at) 0)
       (body_at sheet at))
 
-  abbrev pub leaf_valued : (bits at cell : ℕ) → Valued
-  leaf_valued bits at cell = record {
-    next = at + 1 + body_of (get_or sheet at 0);
-    word = leaf_word at;
-    cell = cell;
-    known = known_by bits (get_or sheet at 0) (body_at sheet at);
+  -- its value where it is known, and as it is by the set of known wires
+  abbrev pub leaf_known : Place → Valued
+  leaf_known here = record {
+    word = leaf_word here.at;
+    end = record { at = here.at + 1 + body_of (get_or sheet here.at 0); cell = here.cell };
   }
+
+  abbrev pub leaf_valued : (bits : ℕ) → Place → Option Valued
+  leaf_valued bits here = cond (known_by bits (get_or sheet here.at 0) (body_at sheet here.at)) (Some (leaf_known here)) None
 
   -- the word of the cell of the kept wire that kind 18 names, which is always known
   abbrev pub last_word : ℕ → ℕ
   last_word at = get_or words (first_last + body_at sheet at) 0
 
-  abbrev pub last_valued : (at cell : ℕ) → Valued
-  last_valued at cell = record { next = at + 2; word = last_word at; cell = cell; known = true }
+  abbrev pub last_valued : Place → Valued
+  last_valued here = record { word = last_word here.at; end = record { at = here.at + 2; cell = here.cell } }

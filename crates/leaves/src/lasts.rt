@@ -6,6 +6,7 @@ ghost use Rattle.leaves.specs.Leaves.{Last, last_word, last_valued};
 
 use crate::Valued;
 use sheet::{data, memory};
+use sheet_walk::Place;
 
 // Where these words begin, behind those of all inputs that there can be.
 pub const FIRST_LAST: usize = 80;
@@ -27,22 +28,23 @@ pub fn put_lasts(types: &[u8], firsts: &[u8; 64], memory: &[u8], words: &mut [u3
 }
 
 // The word that kind 18 gives.
-pub fn word_of(sheet: &[u8], words: &[u32; 144], at: usize) -> u32
+fn word_of(sheet: &[u8], words: &[u32; 144], at: usize) -> u32
     requires { Last sheet.now at }
     ensures { result ≡ last_word sheet.now words.now at }
 {
     words[FIRST_LAST + sheet[at + 1] as usize]
 }
 
-// Its value; it has no cells.
-pub fn value_last(sheet: &[u8], words: &[u32; 144], at: usize, cell: usize) -> Valued
-    requires { Last sheet.now at }
-    ensures { result ≡ last_valued sheet.now words.now at cell }
+// Its value, which is known; it has no cells.
+pub fn value_last(sheet: &[u8], words: &[u32; 144], here: Place) -> Valued
+    requires { Last sheet.now here.at }
+    ensures { result ≡ last_valued sheet.now words.now here }
 {
     Valued {
-        next: at + 2,
-        word: word_of(sheet, words, at),
-        cell,
-        known: true,
+        word: word_of(sheet, words, here.at),
+        end: Place {
+            at: here.at + 2,
+            cell: here.cell,
+        },
     }
 }

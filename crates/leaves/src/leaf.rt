@@ -1,9 +1,10 @@
 // What a constant, a wire or an input stands for, kinds 0 to 3. Rests on `numbers` for a constant and on the set of known wires.
 ghost use Rattle.std.specs.Prelude.{◌≡◌, ◌<◌};
 ghost use Rattle.sheet.specs.Kinds.{body_of};
-ghost use Rattle.leaves.specs.Leaves.{Leaf, known_by, leaf_word, leaf_valued};
+ghost use Rattle.leaves.specs.Leaves.{Leaf, known_by, leaf_word, leaf_known, leaf_valued};
 
 use crate::Valued;
+use sheet_walk::Place;
 use wires::Wires;
 
 // Where the inputs' words begin, behind those of all wires that there can be.
@@ -22,7 +23,7 @@ fn is_known(known: Wires, kind: u8, named: u8) -> bool
 }
 
 // The word that stands for the value: the constant, or the word of the wire or the input that is named.
-pub fn word_of(sheet: &[u8], words: &[u32; 144], at: usize) -> u32
+fn word_of(sheet: &[u8], words: &[u32; 144], at: usize) -> u32
     requires { Leaf sheet.now at }
     ensures { result ≡ leaf_word sheet.now words.now at }
 {
@@ -48,18 +49,28 @@ pub fn body(kind: u8) -> usize
     if kind == 1 { 4 } else { 1 }
 }
 
-// The value; it has no cells.
-pub fn value_leaf(sheet: &[u8], known: Wires, words: &[u32; 144], at: usize, cell: usize) -> Valued
-    requires { Leaf sheet.now at }
-    ensures { result ≡ leaf_valued sheet.now words.now known.bits at cell }
+// The value where it is known; it has no cells.
+pub fn known_leaf(sheet: &[u8], words: &[u32; 144], here: Place) -> Valued
+    requires { Leaf sheet.now here.at }
+    ensures { result ≡ leaf_known sheet.now words.now here }
 {
-    let kind = sheet[at];
-    let known_here = is_known(known, kind, sheet[at + 1]);
-    let word = word_of(sheet, words, at);
     Valued {
-        next: at + 1 + body(kind),
-        word,
-        cell,
-        known: known_here,
+        word: word_of(sheet, words, here.at),
+        end: Place {
+            at: here.at + 1 + body(sheet[here.at]),
+            cell: here.cell,
+        },
+    }
+}
+
+// The value, if it is known.
+pub fn value_leaf(sheet: &[u8], known: Wires, words: &[u32; 144], here: Place) -> Option<Valued>
+    requires { Leaf sheet.now here.at }
+    ensures { result ≡ leaf_valued sheet.now words.now known.bits here }
+{
+    if is_known(known, sheet[here.at], sheet[here.at + 1]) {
+        Some(known_leaf(sheet, words, here))
+    } else {
+        None
     }
 }

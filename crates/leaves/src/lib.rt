@@ -1,5 +1,5 @@
 // What an expression without operands stands for, what a pre or an fby sees of its cell, and the words of inputs and of kept wires' cells.
-// Rests on `sheet` for the format, on `numbers` for words and on `wires` for the set of known wires.
+// Rests on `sheet` for the format, on `sheet_walk` for where an expression stands, on `numbers` for words and on `wires` for the set of known wires.
 #![tactic(auto)]
 
 pub mod cells;
@@ -7,12 +7,11 @@ pub mod inputs;
 pub mod lasts;
 pub mod leaf;
 
-// What is handed back of an expression: whether its value is known, and then its word, the place past it and the number of the
-// first cell past its own. The two numbers stand apart, as neighbours would be read as one behind two stores, and wait for both.
+use sheet_walk::Place;
+
+// What is handed back of an expression whose value is known: the word of the value, and the end of the expression.
 #[derive(Clone, Copy)]
 pub struct Valued {
-    pub next: usize,
     pub word: u32,
-    pub cell: usize,
-    pub known: bool,
+    pub end: Place,
 }

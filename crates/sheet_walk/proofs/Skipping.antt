@@ -9,7 +9,7 @@ use Rattle.sheet.specs.Expressions.{Expression}
 use Rattle.sheet.specs.Kinds.{body_of, cells_of, count_of, operands_of}
 use Rattle.sheet.specs.Readings.{Reading, got, read_each, read_expression, Whole}
 use Rattle.sheet_walk.specs.Skips.{Readable}
-use Rattle.sheet_walk.specs.declared.skip.Skipped.{Skipped}
+use Rattle.sheet_walk.specs.declared.Place.{Place}
 use Rattle.sheet.specs.Laws.Readings.{expression_view, run-view, no-level, operands-counted}
 
 -- with `pending` expressions ahead from `at` on and c cells before them, they end at n with k cells
@@ -78,6 +78,6 @@ one-ahead {s} {at} {c} p =
     p.reads done
 
 pub ended : {s : List ℕ} {at c pending n k : ℕ} → pending ≤ 0 → Ahead s at c pending n k
-    → ◌≡◌ {A = Skipped} (record { next = at; cell = c }) (record { next = n; cell = k })
+    → ◌≡◌ {A = Place} (record { at = at; cell = c }) (record { at = n; cell = k })
 ended none done = refl
 ended none (one w l a) = absurd (omega arith)

@@ -2,7 +2,7 @@
 use Rattle.std.specs.Prelude.{ℕ, ◌≡◌, Bool, true, false, List}
 use Rattle.sheet.specs.Expressions.{Expression}
 use Rattle.sheet.specs.Readings.{got, read_expression}
-use Rattle.sheet_walk.specs.declared.skip.Skipped.{Skipped}
+use Rattle.sheet_walk.specs.declared.Place.{Place}
 
 pub record Readable (s : List ℕ) (at c : ℕ) : Type 0 where
   pub inputs : List ℕ
@@ -15,6 +15,6 @@ pub record Readable (s : List ℕ) (at c : ℕ) : Type 0 where
   pub reads : read_expression inputs wires s level asked at c ≡ got tree next count
 
 -- the expression was walked past where the test holds; where it fails, no step was made
-pub record SkipsIf (test : Bool) (s : List ℕ) (at c : ℕ) (r : Skipped) : Type 0 where
-  pub walks : test ≡ true → (p : Readable s at c) → r ≡ record { next = p.next; cell = p.count }
-  pub stays : test ≡ false → r ≡ record { next = at; cell = c }
+pub record SkipsIf (test : Bool) (s : List ℕ) (here r : Place) : Type 0 where
+  pub walks : test ≡ true → (p : Readable s here.at here.cell) → r ≡ record { at = p.next; cell = p.count }
+  pub stays : test ≡ false → r ≡ here

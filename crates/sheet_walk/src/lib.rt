@@ -1,5 +1,43 @@
-// The walk past one expression of a sheet that passes the check; specs/Starts.antt says where the wires' expressions start.
-// Rests on `sheet` for the table of kinds.
+// Where an expression of a sheet stands, and the walk past one of a sheet that passes the check: each of its kind bytes is met once, and
+// says how far the next one is and how many operands are still ahead. Rests on `sheet` for the table of kinds.
 #![tactic(auto)]
 
-pub mod skip;
+ghost use Rattle.std.specs.Prelude.{◌≡◌, true};
+ghost use Rattle.sheet_walk.specs.Skips.{Readable, SkipsIf};
+
+use sheet::kinds;
+
+// Where an expression stands: at which byte of the sheet, and the number of its first cell.
+#[derive(Clone, Copy)]
+pub struct Place {
+    pub at: usize,
+    pub cell: usize,
+}
+
+// The end of the expression that stands here: the place of the next one.
+pub fn skip(sheet: &[u8], here: Place) -> Place
+    requires { Readable sheet.now here.at here.cell }
+    ensures { (p : Readable sheet.now here.at here.cell) → result ≡ record { at = p.next; cell = p.count } }
+{
+    let mut next = here.at;
+    let mut count = here.cell;
+    let mut pending = 1;
+    while 0 < pending {
+        let kind = sheet[next];
+        pending = pending - 1 + kinds::operands(kind);
+        count += kinds::cells(kind);
+        next += 1 + kinds::body(kind);
+    }
+    Place {
+        at: next,
+        cell: count,
+    }
+}
+
+// The walk past the expression that stands here where the test holds; where it fails, no step.
+pub fn skip_if(test: bool, sheet: &[u8], here: Place) -> Place
+    requires { test ≡ true → Readable sheet.now here.at here.cell }
+    ensures { SkipsIf test sheet.now here result }
+{
+    if test { skip(sheet, here) } else { here }
+}

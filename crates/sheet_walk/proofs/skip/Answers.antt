@@ -2,7 +2,7 @@
 -- is what is left of the sheet.
 use native.Mathlib.Omega.{arith}
 use Rattle.sheet_walk.proofs.Skipping.{one-ahead, step, ended}
-use Rattle.sheet_walk.proofs.skip.skip.Goals as goal
+use Rattle.sheet_walk.proofs.skip.Goals as goal
 
 pub loop-pending-init : goal.loop-pending-init
 loop-pending-init c p = one-ahead p

@@ -4,6 +4,7 @@ ghost use Rattle.sheet.specs.Kinds.{body_of};
 ghost use Rattle.leaves.specs.Leaves.{Leaf, known_by, leaf_word, leaf_known, leaf_valued};
 
 use crate::Valued;
+use sheet::kinds::Kind;
 use sheet_walk::Place;
 use wires::Wires;
 
@@ -27,18 +28,13 @@ fn word_of(sheet: &[u8], words: &[u32; 144], at: usize) -> u32
     requires { Leaf sheet.now at }
     ensures { result ≡ leaf_word sheet.now words.now at }
 {
-    let kind = sheet[at];
-    if kind == 1 {
-        return numbers::word_at(sheet, at + 1);
-    }
     let named = sheet[at + 1] as usize;
-    if kind == 2 {
-        return words[named];
+    match Kind::of(sheet[at]) {
+        Kind::NumberConstant => numbers::word_at(sheet, at + 1),
+        Kind::Wire => words[named],
+        Kind::Input => words[FIRST_INPUT + named],
+        _ => named as u32,
     }
-    if kind == 3 {
-        return words[FIRST_INPUT + named];
-    }
-    named as u32
 }
 
 // How many bytes the body has.

@@ -3,33 +3,35 @@
 #![tactic(auto)]
 
 ghost use Rattle.std.specs.Prelude.{◌≡◌, cond};
+ghost use Rattle.sheet.specs.KindBytes.{byte_of};
 ghost use Rattle.kernel.specs.Operations.{unary_of, binary_of};
 ghost use Rattle.operations.specs.Words.{unary_word, binary_word};
 
 use sheet::data;
+use sheet::kinds::Kind;
 
-// Not, kind 4, and negate, as which every other kind counts.
-pub fn unary(kind: u8, v: u32) -> u32
-    ensures { result ≡ unary_word (unary_of kind) v }
+// Not, and negate, as which every other kind counts.
+pub fn unary(kind: Kind, v: u32) -> u32
+    ensures { result ≡ unary_word (unary_of (byte_of kind)) v }
 {
     match kind {
-        4 => data::word_of_bool(v != 1),
+        Kind::Not => data::word_of_bool(v != 1),
         _ => numbers::to_bits(numbers::negate(numbers::of_bits(v))),
     }
 }
 
-// And, or, add, subtract and less, kinds 6 to 10, and equal, as which every other kind counts.
-pub fn binary(kind: u8, v: u32, w: u32) -> u32
-    ensures { result ≡ binary_word (binary_of kind) v w }
+// And, or, add, subtract and less, and equal, as which every other kind counts.
+pub fn binary(kind: Kind, v: u32, w: u32) -> u32
+    ensures { result ≡ binary_word (binary_of (byte_of kind)) v w }
 {
     let m = numbers::of_bits(v);
     let n = numbers::of_bits(w);
     match kind {
-        6 => data::word_of_bool((v == 1) & (w == 1)),
-        7 => data::word_of_bool((v == 1) | (w == 1)),
-        8 => numbers::to_bits(numbers::add(m, n)),
-        9 => numbers::to_bits(numbers::subtract(m, n)),
-        10 => data::word_of_bool(numbers::less(m, n)),
+        Kind::And => data::word_of_bool((v == 1) & (w == 1)),
+        Kind::Or => data::word_of_bool((v == 1) | (w == 1)),
+        Kind::Add => numbers::to_bits(numbers::add(m, n)),
+        Kind::Subtract => numbers::to_bits(numbers::subtract(m, n)),
+        Kind::Less => data::word_of_bool(numbers::less(m, n)),
         _ => data::word_of_bool(numbers::equal(m, n)),
     }
 }

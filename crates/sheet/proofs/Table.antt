@@ -9,6 +9,10 @@ use lib.Dec.{leb, eqb}
 use borrow.Author.Count.{below_more}
 use borrow.Author.Tests.{eqb-true, leb-true}
 use Rattle.sheet.specs.Kinds.{kind_count, cells_of, count_of, operands_of, digit_of, operand_type_in}
+use Rattle.sheet.specs.KindBytes.{byte_of}
+use Rattle.sheet.specs.declared.kinds.Kind.{Kind}
+use Rattle.sheet.specs.declared.kinds.Kind.TheVariants.{BooleanConstant, NumberConstant, Wire, Input, Not, Negate, And, Or, Add, Subtract}
+use Rattle.sheet.specs.declared.kinds.Kind.TheVariants.{Less, Equal, Conditional, Present, Reset, BooleanPre, NumberPre, Fby, Last, Machine}
 use Rattle.sheet.specs.Laws.Lists.{both}
 use Rattle.sheet.specs.Laws.Readings.{kinds-between, ◌▸◌, end}
 
@@ -28,8 +32,31 @@ passes_at test (suc n) e k l =
 abbrev pub is_column : ℕ → (ℕ → ℕ) → Bool
 is_column column f = passes (λ k. eqb (digit_of column k) (f k)) kind_count
 
-pub column_is : (column : ℕ) (f : ℕ → ℕ) → is_column column f ≡ true → (k : ℕ) → k < kind_count → digit_of column k ≡ f k
-column_is column f e k l = eqb-true _ _ (passes_at (λ k. eqb (digit_of column k) (f k)) kind_count e k l)
+-- the byte of a kind is that of one of the rows
+pub byte_few : (kind : Kind) → byte_of kind < kind_count
+byte_few BooleanConstant = omega arith
+byte_few NumberConstant = omega arith
+byte_few Wire = omega arith
+byte_few Input = omega arith
+byte_few Not = omega arith
+byte_few Negate = omega arith
+byte_few And = omega arith
+byte_few Or = omega arith
+byte_few Add = omega arith
+byte_few Subtract = omega arith
+byte_few Less = omega arith
+byte_few Equal = omega arith
+byte_few Conditional = omega arith
+byte_few Present = omega arith
+byte_few Reset = omega arith
+byte_few BooleanPre = omega arith
+byte_few NumberPre = omega arith
+byte_few Fby = omega arith
+byte_few Last = omega arith
+byte_few Machine = omega arith
+
+pub column_is : (column : ℕ) (f : ℕ → ℕ) → is_column column f ≡ true → (kind : Kind) → digit_of column (byte_of kind) ≡ f (byte_of kind)
+column_is column f e kind = eqb-true _ _ (passes_at (λ k. eqb (digit_of column k) (f k)) kind_count e (byte_of kind) (byte_few kind))
 
 -- a row has no more than four operands and one cell
 pub row-bounds : (k : ℕ) → k < kind_count → (count_of k ≤ 4) × (cells_of k ≤ 1)

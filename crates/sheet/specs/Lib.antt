@@ -4,6 +4,7 @@ pub mod Expressions
 pub mod Lists
 pub mod Reads
 pub mod Kinds
+pub mod KindBytes
 pub mod Readings
 pub mod Headers
 pub mod Sheets

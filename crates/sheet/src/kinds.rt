@@ -1,20 +1,55 @@
-// The table of kinds, a column to a number. It rests on nothing; specs/Kinds.antt has the same
+// The kinds of expressions and their table, a column to a number. It rests on nothing; specs/Kinds.antt has the same
 // table, a row to a kind.
 ghost use Rattle.std.specs.Prelude.{◌≡◌, ℕ, ◌≤◌, ◌<◌, [], ◌∷◌, eqb, take, get_or};
 ghost use Rattle.sheet.specs.Kinds.{kind_count, body_of, cells_of, count_of, read_count_of, own_type_of, typed, operands_of};
 ghost use Rattle.sheet.specs.Kinds.{digit_of, operand_type_in};
+ghost use Rattle.sheet.specs.KindBytes.{byte_of, Decodes};
 
 // How many kinds there are.
-pub const COUNT: u8 = 20;
+const COUNT: u8 = 20;
 
-// An fby, whose cell is not started at first.
-pub const FBY: u8 = 17;
+// A kind of expression, by the byte that stands for it. An fby's cell is not started at first, a last names a kept wire, and a machine's
+// cell has its state.
+#[derive(Clone, Copy, PartialEq, Eq)]
+pub enum Kind {
+    BooleanConstant = 0,
+    NumberConstant = 1,
+    Wire = 2,
+    Input = 3,
+    Not = 4,
+    Negate = 5,
+    And = 6,
+    Or = 7,
+    Add = 8,
+    Subtract = 9,
+    Less = 10,
+    Equal = 11,
+    Conditional = 12,
+    Present = 13,
+    Reset = 14,
+    BooleanPre = 15,
+    NumberPre = 16,
+    Fby = 17,
+    Last = 18,
+    Machine = 19,
+}
 
-// The kind that names a kept wire.
-pub const LAST: u8 = 18;
+// A byte that stands for no kind.
+#[derive(Clone, Copy, PartialEq, Eq)]
+pub struct UnknownKind(pub u8);
 
-// A machine, whose cell has its state.
-pub const MACHINE: u8 = 19;
+impl TryFrom<u8> for Kind {
+    type Error = UnknownKind;
+
+    ghost try_from_gives = { Decodes };
+
+    fn try_from(byte: u8) -> Result<Self, UnknownKind> {
+        if COUNT <= byte {
+            return Err(UnknownKind(byte));
+        }
+        Ok(Kind::of(byte))
+    }
+}
 
 // The columns, each a number with one octal digit to a kind, that of kind 0 last, so that a digit is found by a shift: bytes of
 // body, cells owned, own type, count of operands, and how many of them are read within the instant. A type is 0 for a Boolean or 1 for a
@@ -38,72 +73,106 @@ const WHERE_BOOLEAN: u64 = 0o010000333300100000;
 
 const WHERE_NUMBER: u64 = 0o40310266333300100000;
 
-// The digit of a column for a kind.
-fn digit(column: u64, kind: u8) -> u8
-    requires { kind < kind_count }
-    ensures { result ≡ digit_of column kind }
-{
-    ((column >> (3 * (kind as u32))) % 8) as u8
-}
+impl Kind {
+    // The kind that a byte stands for.
+    pub fn of(byte: u8) -> Kind
+        requires { byte < kind_count }
+        ensures { byte_of result ≡ byte }
+    {
+        match byte {
+            0 => Kind::BooleanConstant,
+            1 => Kind::NumberConstant,
+            2 => Kind::Wire,
+            3 => Kind::Input,
+            4 => Kind::Not,
+            5 => Kind::Negate,
+            6 => Kind::And,
+            7 => Kind::Or,
+            8 => Kind::Add,
+            9 => Kind::Subtract,
+            10 => Kind::Less,
+            11 => Kind::Equal,
+            12 => Kind::Conditional,
+            13 => Kind::Present,
+            14 => Kind::Reset,
+            15 => Kind::BooleanPre,
+            16 => Kind::NumberPre,
+            17 => Kind::Fby,
+            18 => Kind::Last,
+            _ => Kind::Machine,
+        }
+    }
 
-// How many bytes of body follow the kind byte.
-pub fn body(kind: u8) -> usize
-    requires { kind < kind_count }
-    ensures { result ≡ body_of kind }
-{
-    digit(BODIES, kind) as usize
-}
+    // Its digit of a column.
+    fn digit(self, column: u64) -> u8
+        ensures { result ≡ digit_of column (byte_of self) }
+    {
+        ((column >> (3 * (self as u32))) % 8) as u8
+    }
 
-// How many cells an expression of this kind owns, besides its operands'.
-pub fn cells(kind: u8) -> usize
-    requires { kind < kind_count }
-    ensures { result ≡ cells_of kind }
-{
-    digit(CELLS, kind) as usize
-}
+    // How many bytes of body follow the kind byte.
+    pub fn body(self) -> usize
+        ensures { result ≡ body_of (byte_of self) }
+    {
+        self.digit(BODIES) as usize
+    }
 
-// The type of an expression of this kind, as the table gives it.
-pub fn own_type(kind: u8) -> u8
-    requires { kind < kind_count }
-    ensures { result ≡ own_type_of kind }
-{
-    digit(OWN_TYPES, kind)
-}
+    // How many cells an expression of this kind owns, besides its operands'.
+    pub fn cells(self) -> usize
+        ensures { result ≡ cells_of (byte_of self) }
+    {
+        self.digit(CELLS) as usize
+    }
 
-// Whether an expression of this kind has the type asked, unless it has that of what it names. Looked up, as two tests would be two
-// branches that no machine foresees.
-pub fn fits(kind: u8, asked: u8) -> bool
-    requires { (kind < kind_count) × (asked < 2) }
-    ensures { result ≡ eqb (typed asked (own_type_of kind)) asked }
-{
-    (digit(FITTING, kind) >> asked as u32) % 2 == 1
-}
+    // The type of an expression of this kind, as the table gives it.
+    pub fn own_type(self) -> u8
+        ensures { result ≡ own_type_of (byte_of self) }
+    {
+        self.digit(OWN_TYPES)
+    }
 
-// How many operands follow the body.
-pub fn operands(kind: u8) -> usize
-    requires { kind < kind_count }
-    ensures { result ≡ count_of kind }
-{
-    digit(OPERANDS, kind) as usize
-}
+    // Whether an expression of this kind has the type asked, unless it has that of what it names. Looked up, as two tests would be two
+    // branches that no machine foresees.
+    pub fn fits(self, asked: u8) -> bool
+        requires { asked < 2 }
+        ensures { result ≡ eqb (typed asked (own_type_of (byte_of self))) asked }
+    {
+        (self.digit(FITTING) >> asked as u32) % 2 == 1
+    }
 
-// How many of the operands, from the first on, are read within the instant.
-pub fn read_operands(kind: u8) -> usize
-    requires { kind < kind_count }
-    ensures { result ≡ read_count_of kind }
-{
-    digit(READ_OPERANDS, kind) as usize
-}
+    // How many operands follow the body.
+    pub fn operands(self) -> usize
+        ensures { result ≡ count_of (byte_of self) }
+    {
+        self.digit(OPERANDS) as usize
+    }
 
-// The types asked of the operands where `asked` is asked of the whole, for `operand_type` to look up.
-pub fn operand_types(kind: u8, asked: u8) -> u8
-    requires { (kind < kind_count) × (asked < 2) }
-    ensures { (i : ℕ) → i < count_of kind → operand_type_in result i ≡ get_or (operands_of kind asked) i 0 }
-{
-    if asked == 0 {
-        digit(WHERE_BOOLEAN, kind)
-    } else {
-        digit(WHERE_NUMBER, kind)
+    // How many of the operands, from the first on, are read within the instant.
+    pub fn read_operands(self) -> usize
+        ensures { result ≡ read_count_of (byte_of self) }
+    {
+        self.digit(READ_OPERANDS) as usize
+    }
+
+    // The types asked of the operands where `asked` is asked of the whole, for `operand_type` to look up.
+    pub fn operand_types(self, asked: u8) -> u8
+        requires { asked < 2 }
+        ensures { (i : ℕ) → i < count_of (byte_of self)
+            → operand_type_in result i ≡ get_or (operands_of (byte_of self) asked) i 0 }
+    {
+        if asked == 0 {
+            self.digit(WHERE_BOOLEAN)
+        } else {
+            self.digit(WHERE_NUMBER)
+        }
+    }
+
+    // The type asked of every operand of an operation, kinds 4 to 11, whatever is asked of the whole.
+    pub fn operation_type(self) -> u8
+        requires { (4 ≤ byte_of self) × (byte_of self < 12) }
+        ensures { (asked : ℕ) → take (count_of (byte_of self)) (result ∷ result ∷ []) ≡ operands_of (byte_of self) asked }
+    {
+        self.digit(WHERE_NUMBER) % 2
     }
 }
 
@@ -113,12 +182,4 @@ pub fn operand_type(types: u8, i: usize) -> u8
 {
     let place = if i < 2 { i } else { 2 };
     (types >> place as u32) % 2
-}
-
-// The type asked of every operand of an operation, kinds 4 to 11, whatever is asked of the whole.
-pub fn operation_type(kind: u8) -> u8
-    requires { (4 ≤ kind) × (kind < 12) }
-    ensures { (asked : ℕ) → take (count_of kind) (result ∷ result ∷ []) ≡ operands_of kind asked }
-{
-    digit(WHERE_NUMBER, kind) % 2
 }

@@ -8,7 +8,8 @@ ghost use Rattle.sheet.specs.Readings.{body_at, Whole};
 ghost use Rattle.sheet.specs.Memory.{own_cell};
 ghost use Rattle.sheet_cells.specs.Owned.{own_bytes};
 
-use sheet::{Cell, Datum, bodies, data, kinds, memory};
+use sheet::kinds::Kind;
+use sheet::{Cell, Datum, bodies, data, memory};
 
 // Puts the cell that the expression at `at` owns, if it owns one, as the cell with number k.
 pub fn put_own(sheet: &[u8], at: usize, memory: &mut [u8], k: usize)
@@ -16,7 +17,7 @@ pub fn put_own(sheet: &[u8], at: usize, memory: &mut [u8], k: usize)
     requires at_in_bounds { 5 * k + length (own_bytes sheet.now at) ≤ length memory.old }
     ensures { memory.new ≡ sets memory.old (5 * k) (own_bytes sheet.now at) }
 {
-    if kinds::cells(sheet[at]) != 0 {
+    if Kind::of(sheet[at]).cells() != 0 {
         memory::put_cell(memory, k, own_cell(sheet, at));
     }
 }
@@ -27,13 +28,13 @@ pub fn own_cell(sheet: &[u8], at: usize) -> Cell
     requires { Whole sheet.now at }
     ensures { result ≡ own_cell (get_or sheet.now at 0) (body_at sheet.now at) }
 {
-    let kind = sheet[at];
+    let kind = Kind::of(sheet[at]);
     match kind {
-        15 | 16 => {
+        Kind::BooleanPre | Kind::NumberPre => {
             let constant = bodies::body_at(sheet, at);
-            Cell::Started(data::datum_of(kinds::own_type(kind), constant))
+            Cell::Started(data::datum_of(kind.own_type(), constant))
         }
-        kinds::MACHINE => Cell::Started(Datum::Boolean(false)),
+        Kind::Machine => Cell::Started(Datum::Boolean(false)),
         _ => Cell::NotStarted,
     }
 }

@@ -5,7 +5,7 @@
 ghost use Rattle.std.specs.Prelude.{◌≡◌, true};
 ghost use Rattle.sheet_walk.specs.Skips.{Readable, SkipsIf};
 
-use sheet::kinds;
+use sheet::kinds::Kind;
 
 // Where an expression stands: at which byte of the sheet, and the number of its first cell.
 #[derive(Clone, Copy)]
@@ -23,10 +23,10 @@ pub fn skip(sheet: &[u8], here: Place) -> Place
     let mut count = here.cell;
     let mut pending = 1;
     while 0 < pending {
-        let kind = sheet[next];
-        pending = pending - 1 + kinds::operands(kind);
-        count += kinds::cells(kind);
-        next += 1 + kinds::body(kind);
+        let kind = Kind::of(sheet[next]);
+        pending = pending - 1 + kind.operands();
+        count += kind.cells();
+        next += 1 + kind.body();
     }
     Place {
         at: next,

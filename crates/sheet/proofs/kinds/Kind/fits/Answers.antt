@@ -6,8 +6,9 @@ use native.Mathlib.Omega.{arith}
 use lib.Dec.{eqb}
 use Rattle.sheet.specs.Kinds.{kind_count, own_type_of, typed, digit_of}
 use Rattle.sheet.specs.Laws.Lists.{never}
-use Rattle.sheet.proofs.Table.{passes, passes_at}
-use Rattle.sheet.proofs.kinds.fits.Goals as goal
+use Rattle.sheet.specs.KindBytes.{byte_of}
+use Rattle.sheet.proofs.Table.{passes, passes_at, byte_few}
+use Rattle.sheet.proofs.kinds.Kind.fits.Goals as goal
 
 module _ (column asked : ℕ) where
   abbrev fitting : ℕ → Bool
@@ -34,6 +35,4 @@ both-fitting (suc zero) l = fitting-is 0o30321333112211210021 1 refl
 both-fitting (suc (suc asked)) l = absurd (omega arith)
 
 pub returns : goal.returns
-returns c =
-    let start = c.before in
-    rw c.digit.ensures (both-fitting start.args.asked start.requires.1 start.args.kind start.requires.0)
+returns c = rw c.digit.ensures (both-fitting c.args.asked c.requires (byte_of c.args.self) (byte_few c.args.self))

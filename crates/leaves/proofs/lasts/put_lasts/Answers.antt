@@ -3,11 +3,7 @@ use mathlib.Core.Path.{◌≡◌, sym, ◌∙◌}
 use native.Mathlib.Omega.{arith}
 use lib.ListN.{length}
 use Rattle.leaves.specs.Words.{KeptCells, LastsPut}
-use Rattle.leaves.proofs.Putting.{none-put, one-put, one-passed}
 use Rattle.leaves.proofs.lasts.put_lasts.Goals as goal
-
-pub loop-w-init : goal.loop-w-init
-loop-w-init c = (omega arith, none-put _ _ _ _ c.requires.2)
 
 pub overflow_sub-length_of : goal.overflow_sub-length_of
 unfolding KeptCells
@@ -20,16 +16,6 @@ unfolding KeptCells
 word_in-requires c =
     let kept = sym c.is_kept.ensures ∙ c.if-is_kept.true in
     omega (arith, (c.requires.0 _ (omega arith) kept).some, (c.requires.0 _ (omega arith) kept).fits, c.length_of.ensures.0)
-
-pub bounds-words-w : goal.bounds-words-w
-bounds-words-w c = omega (arith, c.loop-w.invariant.1.sized)
-
-pub loop-w-preserved : goal.loop-w-preserved
-loop-w-preserved c =
-    let at = c.loop-w in (
-      omega arith,
-      elim c.if-is_kept.branch [ goal.then-is_kept w ↦ rw w.words-is (one-put _ _ _ _ at.invariant.1 (omega arith) (w.word_in.ensures ∙ rw w.length_of.ensures.0)) | goal.else-is_kept w ↦ rw w.words-is (one-passed _ _ _ _ at.invariant.1 (sym c.is_kept.ensures ∙ w.if-is_kept.false)) ],
-    )
 
 pub returns : goal.returns
 unfolding LastsPut

@@ -3,20 +3,21 @@ use Prim.Native.Nat.{ℕ, ◌+◌, ◌≤◌, ◌<◌}
 use mathlib.Core.Path.{◌≡◌, refl, subst, ◌∙◌}
 use mathlib.Core.Bool.{Bool, true, false, ◌||◌, cond}
 use mathlib.Core.List.{List}
+use Rattle.std.specs.Prelude.{Option, Some, None}
 use lib.Dec.{eqb, ltb}
 use lib.ListN.{get_or}
 use borrow.Author.Tests.{ne_eqb, ltb-true, ltb-false}
 use Rattle.sheet.specs.Kinds.{body_of}
 use Rattle.sheet.specs.Memory.{cell_word_at}
 use Rattle.sheet.specs.Readings.{body_at}
-use Rattle.sheet_walk.specs.declared.skip.Skipped.{Skipped}
+use Rattle.sheet_walk.specs.declared.Place.{Place}
 use Rattle.kernel.specs.Operations.{unary_of, binary_of}
 use Rattle.kernel.specs.declared.Value.TheVariants.{Unknown}
 use Rattle.operations.specs.Words.{unary_word, binary_word}
 use Rattle.leaves.specs.declared.Valued.{Valued}
 use Rattle.leaves.specs.Words.{is_seen, pre_word}
 use Rattle.expression.specs.Places.{Placement, whole_value, Gives, Yields, unknown, known}
-use Rattle.leaves.specs.Leaves.{known_by, leaf_valued, last_valued}
+use Rattle.leaves.specs.Leaves.{known_by, leaf_known, leaf_valued, last_valued}
 use Rattle.expression.proofs.Views.{placed, readable, own-types}
 use Rattle.expression.proofs.Views.{unary-view, binary-view, conditional-view, present-view, reset-view, fby-view, pre-view}
 use Rattle.expression.proofs.Values.{as_known, as_unknown, Answers, Walked, by_value, by-walk, value-behind, walk-behind}
@@ -29,20 +30,23 @@ module _ {sheet memory words : List ℕ} {bits level asked at cell : ℕ}
   abbrev kind : ℕ
   kind = get_or sheet at 0
 
-  pub leaf_yields : kind < 4 → {r : Valued} → r ≡ leaf_valued sheet words bits at cell → Yields p fresh r
+  pub leaf_yields : kind < 4 → {r : Option Valued} → r ≡ leaf_valued sheet words bits (record { at = at; cell = cell }) → Yields p fresh r
   leaf_yields below is = rw is (by (known_by bits kind (body_at sheet at)) refl)
     where
-      by : (b : Bool) → known_by bits kind (body_at sheet at) ≡ b → Yields p fresh (leaf_valued sheet words bits at cell)
-      by true e = known e (leaf-gives p fresh below e)
-      by false e = unknown e (leaf-value p fresh below ∙ rw e)
+      here : Place
+      here = record { at = at; cell = cell }
 
-  pub last_yields : kind ≡ 18 → {r : Valued} → r ≡ last_valued sheet words at cell → Yields p fresh r
-  last_yields of is = rw is (known refl (last-gives p fresh of))
+      by : (b : Bool) → known_by bits kind (body_at sheet at) ≡ b → Yields p fresh (cond b (Some (leaf_known sheet words here)) None)
+      by true e = known (leaf-gives p fresh below e)
+      by false e = unknown (leaf-value p fresh below ∙ rw e)
+
+  pub last_yields : kind ≡ 18 → {v : Valued} → v ≡ last_valued sheet words (record { at = at; cell = cell }) → Yields p fresh (Some v)
+  last_yields of is = rw is (known (last-gives p fresh of))
 
   -- an operation on one or two operands
-  module _ {a : Valued} (ha : Answers p (at + 1) cell fresh a) where
-    pub operation_unknown : 4 ≤ kind → kind < 12 → a.known ≡ false → whole_value p fresh ≡ Unknown
-    operation_unknown low high ends = by (ltb kind 6) refl
+  module _ {a : Option Valued} (ha : Answers p (at + 1) cell fresh a) where
+    pub operation_unknown : 4 ≤ kind → kind < 12 → a ≡ None → Yields p fresh None
+    operation_unknown low high ends = unknown (by (ltb kind 6) refl)
       where
         by : (b : Bool) → ltb kind 6 ≡ b → whole_value p fresh ≡ Unknown
         by true t =
@@ -52,136 +56,143 @@ module _ {sheet memory words : List ℕ} {bits level asked at cell : ℕ}
             let w = binary-view p _ (own-types p) (ltb-false _ _ t) high in
             binary-value p fresh w ∙ rw (as_unknown (ha _ (placed p w.first)) ends)
 
-    pub unary-answer : 4 ≤ kind → kind < 6 → a.known ≡ true → {v : ℕ} → v ≡ unary_word (unary_of kind) a.word
-        → Yields p fresh (record { next = a.next; word = v; cell = a.cell; known = true })
-    unary-answer low high there is =
-        let w = unary-view p _ (own-types p) low high in
-        known refl (unary-gives p fresh _ (own-types p) low high (as_known (ha _ (placed p w.first)) there) is)
+    module _ {u : Valued} (there : a ≡ Some u) where
+      pub unary-answer : 4 ≤ kind → kind < 6 → {v : ℕ} → v ≡ unary_word (unary_of kind) u.word
+          → Yields p fresh (Some (record { word = v; end = u.end }))
+      unary-answer low high is =
+          let w = unary-view p _ (own-types p) low high in
+          known (unary-gives p fresh _ (own-types p) low high (as_known (ha _ (placed p w.first)) there) is)
 
-    pub binary-answer : 6 ≤ kind → kind < 12 → a.known ≡ true → {b : Valued} → Answers p a.next a.cell fresh b → {v : ℕ}
-        → v ≡ binary_word (binary_of kind) a.word b.word
-        → Yields p fresh (record { next = b.next; word = v; cell = b.cell; known = b.known })
-    binary-answer low high there {b} hb {v} is =
-        let g = as_known (ha _ (placed p (binary-view p _ (own-types p) low high).first)) there in
-        by g (value-behind p (by_value p g) hb (binary-view p _ (own-types p) low high).second)
-      where
-        by : Gives (placed p (binary-view p _ (own-types p) low high).first) fresh a.word a.next a.cell
-            → Yields (placed p (binary-view p _ (own-types p) low high).second) fresh b
-            → Yields p fresh (record { next = b.next; word = v; cell = b.cell; known = b.known })
-        by g (unknown ends u) = unknown ends (binary-value p fresh (binary-view p _ (own-types p) low high) ∙ rw (g.value, u))
-        by g (known h f) = known h (binary-gives p fresh _ (own-types p) low high g f is)
+      module _ (low : 6 ≤ kind) (high : kind < 12) {b : Option Valued} (hb : Answers p u.end.at u.end.cell fresh b) where
+        left_gives : Gives (placed p (binary-view p _ (own-types p) low high).first) fresh u.word u.end.at u.end.cell
+        left_gives = as_known (ha _ (placed p (binary-view p _ (own-types p) low high).first)) there
 
-  module _ (of : kind ≡ 12) {c : Valued} (hc : Answers p (at + 1) cell fresh c) where
-    pub conditional-unknown : c.known ≡ false → whole_value p fresh ≡ Unknown
+        right_yields : Yields (placed p (binary-view p _ (own-types p) low high).second) fresh b
+        right_yields = value-behind p (by_value p left_gives) hb (binary-view p _ (own-types p) low high).second
+
+        pub binary-unknown : b ≡ None → Yields p fresh None
+        binary-unknown ends =
+            unknown (binary-value p fresh (binary-view p _ (own-types p) low high) ∙ rw (left_gives.value, as_unknown right_yields ends))
+
+        pub binary-answer : {w : Valued} → b ≡ Some w → {v : ℕ} → v ≡ binary_word (binary_of kind) u.word w.word
+            → Yields p fresh (Some (record { word = v; end = w.end }))
+        binary-answer here is = known (binary-gives p fresh _ (own-types p) low high left_gives (as_known right_yields here) is)
+
+  module _ (of : kind ≡ 12) {c : Option Valued} (hc : Answers p (at + 1) cell fresh c) where
+    pub conditional-unknown : c ≡ None → Yields p fresh None
     conditional-unknown ends =
         let w = conditional-view p of in
-        conditional-value p fresh w ∙ rw (as_unknown (hc _ (placed p w.first)) ends)
+        unknown (conditional-value p fresh w ∙ rw (as_unknown (hc _ (placed p w.first)) ends))
 
-    module _ (holds : c.known ≡ true) {a : Valued} (ha : Answers p c.next c.cell fresh a) where
-      conditional-first : Gives (placed p (conditional-view p of).first) fresh c.word c.next c.cell
+    module _ {u : Valued} (holds : c ≡ Some u) {a : Option Valued} (ha : Answers p u.end.at u.end.cell fresh a) where
+      conditional-first : Gives (placed p (conditional-view p of).first) fresh u.word u.end.at u.end.cell
       conditional-first = as_known (hc _ (placed p (conditional-view p of).first)) holds
 
       conditional-second : Yields (placed p (conditional-view p of).second) fresh a
       conditional-second = value-behind p (by_value p conditional-first) ha (conditional-view p of).second
 
-      pub conditional-unknown-arm : a.known ≡ false → whole_value p fresh ≡ Unknown
-      conditional-unknown-arm ends =
+      pub conditional-unknown-then : a ≡ None → Yields p fresh None
+      conditional-unknown-then ends =
           let w = conditional-view p of in
-          conditional-value p fresh w ∙ rw (conditional-first.value, as_unknown conditional-second ends)
+          unknown (conditional-value p fresh w ∙ rw (conditional-first.value, as_unknown conditional-second ends))
 
-      pub conditional-answer : a.known ≡ true → {b : Valued} → Answers p a.next a.cell fresh b → {v : ℕ}
-          → v ≡ cond (eqb c.word 1) a.word b.word
-          → Yields p fresh (record { next = b.next; word = v; cell = b.cell; known = b.known })
-      conditional-answer there {b} hb {v} is =
-          let g = as_known conditional-second there in
-          by g (value-behind p (by_value p g) hb (conditional-view p of).third)
-        where
-          by : Gives (placed p (conditional-view p of).second) fresh a.word a.next a.cell
-              → Yields (placed p (conditional-view p of).third) fresh b
-              → Yields p fresh (record { next = b.next; word = v; cell = b.cell; known = b.known })
-          by g (unknown ends u) =
-              unknown ends (conditional-value p fresh (conditional-view p of) ∙ rw (conditional-first.value, g.value, u))
-          by g (known h f) = known h (conditional-gives p fresh of conditional-first g f is)
+      module _ {x : Valued} (there : a ≡ Some x) {b : Option Valued} (hb : Answers p x.end.at x.end.cell fresh b) where
+        conditional_then : Gives (placed p (conditional-view p of).second) fresh x.word x.end.at x.end.cell
+        conditional_then = as_known conditional-second there
 
-  module _ (of : kind ≡ 13) {c : Valued} (hc : Answers p (at + 1) cell fresh c) where
-    pub present-unknown : c.known ≡ false → whole_value p fresh ≡ Unknown
+        conditional_third : Yields (placed p (conditional-view p of).third) fresh b
+        conditional_third = value-behind p (by_value p conditional_then) hb (conditional-view p of).third
+
+        pub conditional-unknown-otherwise : b ≡ None → Yields p fresh None
+        conditional-unknown-otherwise ends =
+            unknown (conditional-value p fresh (conditional-view p of)
+            ∙ rw (conditional-first.value, conditional_then.value, as_unknown conditional_third ends))
+
+        pub conditional-answer : {y : Valued} → b ≡ Some y → {v : ℕ} → v ≡ cond (eqb u.word 1) x.word y.word
+            → Yields p fresh (Some (record { word = v; end = y.end }))
+        conditional-answer here is =
+            known (conditional-gives p fresh of conditional-first conditional_then (as_known conditional_third here) is)
+
+  module _ (of : kind ≡ 13) {c : Option Valued} (hc : Answers p (at + 1) cell fresh c) where
+    pub present-unknown : c ≡ None → Yields p fresh None
     present-unknown ends =
         let w = present-view p of in
-        present-value p fresh w ∙ rw (as_unknown (hc _ (placed p w.first)) ends)
+        unknown (present-value p fresh w ∙ rw (as_unknown (hc _ (placed p w.first)) ends))
 
-    module _ (there : c.known ≡ true) where
-      present_condition : Gives (placed p (present-view p of).first) fresh c.word c.next c.cell
+    module _ {u : Valued} (there : c ≡ Some u) where
+      present_condition : Gives (placed p (present-view p of).first) fresh u.word u.end.at u.end.cell
       present_condition = as_known (hc _ (placed p (present-view p of).first)) there
 
-      module _ (holds : c.word ≡ 1) {a : Valued} (ha : Answers p c.next c.cell fresh a) where
+      module _ (holds : u.word ≡ 1) {a : Option Valued} (ha : Answers p u.end.at u.end.cell fresh a) where
         present-arm : Yields (placed p (present-view p of).second) fresh a
         present-arm = value-behind p (by_value p present_condition) ha (present-view p of).second
 
-        pub present-unknown-arm : a.known ≡ false → whole_value p fresh ≡ Unknown
+        pub present-unknown-arm : a ≡ None → Yields p fresh None
         present-unknown-arm ends =
-            present-value p fresh (present-view p of) ∙ rw (present_condition.value, holds) (as_unknown present-arm ends)
+            unknown (present-value p fresh (present-view p of) ∙ rw (present_condition.value, holds) (as_unknown present-arm ends))
 
-        pub present-answer-first : a.known ≡ true → {b : Skipped} → Walked p a.next a.cell b
-            → Yields p fresh (record { next = b.next; word = a.word; cell = b.cell; known = true })
+        pub present-answer-first : {x : Valued} → a ≡ Some x → {b : Place} → Walked p x.end.at x.end.cell b
+            → Yields p fresh (Some (record { word = x.word; end = b }))
         present-answer-first here hb =
             let g = as_known present-arm here in
             let w = present-view p of in
-            known refl (present-gives-first p fresh of present_condition holds g
+            known (present-gives-first p fresh of present_condition holds g
             (by-walk p w.third (walk-behind p (by_value p g) hb w.third)))
 
-      pub present-answer-second : (c.word ≡ 1 → ⊥) → {a : Skipped} {b : Valued} → Walked p c.next c.cell a
-          → Answers p a.next a.cell fresh b → Yields p fresh b
+      pub present-answer-second : (u.word ≡ 1 → ⊥) → {a : Place} {b : Option Valued} → Walked p u.end.at u.end.cell a
+          → Answers p a.at a.cell fresh b → Yields p fresh b
       present-answer-second fails {b = b} ha hb =
           let w = present-view p of in
           let e = walk-behind p (by_value p present_condition) ha w.second in
           by (value-behind p (by-walk p w.second e) hb w.third)
         where
-          by : Yields (placed p (present-view p of).third) fresh b → Yields p fresh b
-          by (unknown ends u) =
-              unknown ends (present-value p fresh (present-view p of) ∙ rw (present_condition.value, ne_eqb c.word 1 fails) u)
-          by (known h f) = known h (present-gives-second p fresh of present_condition fails f)
+          by : {r : Option Valued} → Yields (placed p (present-view p of).third) fresh r → Yields p fresh r
+          by (unknown n) =
+              unknown (present-value p fresh (present-view p of) ∙ rw (present_condition.value, ne_eqb u.word 1 fails) n)
+          by (known f) = known (present-gives-second p fresh of present_condition fails f)
 
-  module _ (of : kind ≡ 14) {c : Valued} (hc : Answers p (at + 1) cell fresh c) where
-    pub reset-unknown : c.known ≡ false → whole_value p fresh ≡ Unknown
+  module _ (of : kind ≡ 14) {c : Option Valued} (hc : Answers p (at + 1) cell fresh c) where
+    pub reset-unknown : c ≡ None → Yields p fresh None
     reset-unknown ends =
         let w = reset-view p of in
-        reset-value p fresh w ∙ rw (as_unknown (hc _ (placed p w.first)) ends)
+        unknown (reset-value p fresh w ∙ rw (as_unknown (hc _ (placed p w.first)) ends))
 
-    pub reset-answer : c.known ≡ true → {a : Valued} → Answers p c.next c.cell (eqb c.word 1 || fresh) a → Yields p fresh a
-    reset-answer there {a} ha =
+    pub reset-answer : {u : Valued} → c ≡ Some u → {a : Option Valued} → Answers p u.end.at u.end.cell (eqb u.word 1 || fresh) a
+        → Yields p fresh a
+    reset-answer {u} there {a} ha =
         let g = as_known (hc _ (placed p (reset-view p of).first)) there in
         by g (value-behind p (by_value p g) ha (reset-view p of).second)
       where
-        by : Gives (placed p (reset-view p of).first) fresh c.word c.next c.cell
-            → Yields (placed p (reset-view p of).second) (eqb c.word 1 || fresh) a → Yields p fresh a
-        by g (unknown ends u) = unknown ends (reset-value p fresh (reset-view p of) ∙ rw g.value u)
-        by g (known h f) = known h (reset-gives p fresh of g f)
+        by : {r : Option Valued} → Gives (placed p (reset-view p of).first) fresh u.word u.end.at u.end.cell
+            → Yields (placed p (reset-view p of).second) (eqb u.word 1 || fresh) r → Yields p fresh r
+        by g (unknown n) = unknown (reset-value p fresh (reset-view p of) ∙ rw g.value n)
+        by g (known f) = known (reset-gives p fresh of g f)
 
   module _ (of : kind ≡ 17) where
     pub fby-answer-cell : is_seen fresh memory cell ≡ true → {word : ℕ} → word ≡ cell_word_at memory cell
-        → {a b : Skipped} → Walked p (at + 1) (cell + 1) a → Walked p a.next a.cell b
-        → Yields p fresh (record { next = b.next; word = word; cell = b.cell; known = true })
+        → {a b : Place} → Walked p (at + 1) (cell + 1) a → Walked p a.at a.cell b
+        → Yields p fresh (Some (record { word = word; end = b }))
     fby-answer-cell seen is ha hb =
         let w = fby-view p of in
         let e = by-walk p w.first (ha (readable p w.first)) in
-        known refl (rw is (fby-gives-cell p fresh of seen (by-walk p w.second (walk-behind p e hb w.second))))
+        known (rw is (fby-gives-cell p fresh of seen (by-walk p w.second (walk-behind p e hb w.second))))
 
-    module _ (unseen : is_seen fresh memory cell ≡ false) {a : Valued} (ha : Answers p (at + 1) (cell + 1) fresh a) where
-      pub fby-unknown : a.known ≡ false → whole_value p fresh ≡ Unknown
-      fby-unknown ends = fby-left p fresh of unseen ∙ as_unknown (ha _ (placed p (fby-view p of).first)) ends
+    module _ (unseen : is_seen fresh memory cell ≡ false) {a : Option Valued} (ha : Answers p (at + 1) (cell + 1) fresh a) where
+      pub fby-unknown : a ≡ None → Yields p fresh None
+      fby-unknown ends = unknown (fby-left p fresh of unseen ∙ as_unknown (ha _ (placed p (fby-view p of).first)) ends)
 
-      pub fby-answer-left : a.known ≡ true → {b : Skipped} → Walked p a.next a.cell b
-          → Yields p fresh (record { next = b.next; word = a.word; cell = b.cell; known = true })
+      pub fby-answer-left : {x : Valued} → a ≡ Some x → {b : Place} → Walked p x.end.at x.end.cell b
+          → Yields p fresh (Some (record { word = x.word; end = b }))
       fby-answer-left there hb =
           let w = fby-view p of in
           let g = as_known (ha _ (placed p w.first)) there in
-          known refl (fby-gives-left p fresh of unseen g (by-walk p w.second (walk-behind p (by_value p g) hb w.second)))
+          known (fby-gives-left p fresh of unseen g (by-walk p w.second (walk-behind p (by_value p g) hb w.second)))
 
   -- the word of a pre, whose operand was passed over behind a body of the size that the code has
   pub pre-answer : (low : 15 ≤ kind) (high : kind < 17) {size : ℕ} → size ≡ body_of kind
-      → {word : ℕ} → word ≡ pre_word sheet memory at cell fresh → {a : Skipped} → Walked p (at + 1 + size) (cell + 1) a
-      → Yields p fresh (record { next = a.next; word = word; cell = a.cell; known = true })
+      → {word : ℕ} → word ≡ pre_word sheet memory at cell fresh → {a : Place} → Walked p (at + 1 + size) (cell + 1) a
+      → Yields p fresh (Some (record { word = word; end = a }))
   pre-answer low high sized is {a} h =
       let w = pre-view p low high in
       let e = subst (λ (n : ℕ). Walked p (at + 1 + n) (cell + 1) a) sized h (readable p w.first) in
-      known refl (pre-gives p fresh low high is (by-walk p w.first e))
+      known (pre-gives p fresh low high is (by-walk p w.first e))

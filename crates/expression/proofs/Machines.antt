@@ -4,6 +4,7 @@ use Prim.Native.Nat.{ℕ, ◌+◌}
 use mathlib.Core.Path.{◌≡◌, refl, sym, ap, ◌∙◌}
 use mathlib.Core.Bool.{Bool, true, false, not, ◌||◌, beq, cond}
 use mathlib.Core.List.{List}
+use Rattle.std.specs.Prelude.{Option, Some, None}
 use lib.Dec.{eqb}
 use lib.ListN.{get_or}
 use Rattle.sheet.specs.Data.{boolean, type_of_byte, datum_of}
@@ -13,14 +14,14 @@ use Rattle.sheet.specs.Laws.Lists.{never}
 use Rattle.sheet.specs.declared.Datum.TheVariants.{Boolean}
 use Rattle.sheet.specs.declared.Cell.TheVariants.{Started}
 use Rattle.sheet_walk.specs.Skips.{SkipsIf}
-use Rattle.sheet_walk.specs.declared.skip.Skipped.{Skipped}
+use Rattle.sheet_walk.specs.declared.Place.{Place}
 use Rattle.kernel.specs.Values.{truth}
 use Rattle.kernel.specs.Instant.{value, held_or, held}
 use Rattle.kernel.specs.declared.Value.{Value}
 use Rattle.kernel.specs.declared.Value.TheVariants.{Unknown, Known}
 use Rattle.leaves.specs.Words.{is_second_state}
 use Rattle.leaves.specs.declared.Valued.{Valued}
-use Rattle.expression.specs.Places.{Placement, whole_value, Gives, Yields, known}
+use Rattle.expression.specs.Places.{Placement, whole_value, Gives, Yields, unknown, known}
 use Rattle.expression.proofs.Views.{Operand, placed, readable, Four, state-cell, machine-view}
 use Rattle.expression.proofs.Values.{as_known, as_unknown, operand_value, Answers, Ended, by_value, by-walk, behind, machine-value, finished}
 
@@ -61,26 +62,26 @@ module _ {sheet memory words : List ℕ} {bits level asked at cell : ℕ}
   -- Two operands one behind the other, the first of which is walked past where the test holds.
   module _ {t a k : ℕ} (first : Operand p t a k) (second : Operand p t first.next first.count) where
     -- the one that counts
-    abbrev pub picked : (test : Bool) {r : Skipped} → SkipsIf test sheet a k r → Operand p t r.next r.cell
+    abbrev pub picked : (test : Bool) {r : Place} → SkipsIf test sheet (record { at = a; cell = k }) r → Operand p t r.at r.cell
     picked true h = behind p (by-walk p first (h.walks refl (readable p first))) second
-    picked false h = moved (ap (λ x. x.next) (h.stays refl)) (ap (λ x. x.cell) (h.stays refl)) first
+    picked false h = moved (ap (λ x. x.at) (h.stays refl)) (ap (λ x. x.cell) (h.stays refl)) first
 
-    pub picked_value : (test : Bool) {r : Skipped} (h : SkipsIf test sheet a k r) (f : Bool)
+    pub picked_value : (test : Bool) {r : Place} (h : SkipsIf test sheet (record { at = a; cell = k }) r) (f : Bool)
         → operand_value p f (picked test h) ≡ cond test (operand_value p f second) (operand_value p f first)
     picked_value true h f = ap (λ x. value p.now f second.tree x.cell) (h.walks refl (readable p first))
     picked_value false h f = ap (λ x. value p.now f first.tree x.cell) (h.stays refl)
 
     -- where that one ended the second begins, if it was the first
-    pub other : (test : Bool) {r : Skipped} (h : SkipsIf test sheet a k r) {n j : ℕ} → Ended p (picked test h) n j → not test ≡ true
+    pub other : (test : Bool) {r : Place} (h : SkipsIf test sheet (record { at = a; cell = k }) r) {n j : ℕ} → Ended p (picked test h) n j → not test ≡ true
         → Operand p t n j
     other true h e f = never (cc)
     other false h e f = moved e.next e.count second
 
     -- behind both of them
-    pub both-ended : (test : Bool) {r : Skipped} (h : SkipsIf test sheet a k r) {n j : ℕ} → Ended p (picked test h) n j
-        → {q : Skipped} → SkipsIf (not test) sheet n j q → Ended p second q.next q.cell
+    pub both-ended : (test : Bool) {r : Place} (h : SkipsIf test sheet (record { at = a; cell = k }) r) {n j : ℕ} → Ended p (picked test h) n j
+        → {q : Place} → SkipsIf (not test) sheet (record { at = n; cell = j }) q → Ended p second q.at q.cell
     both-ended true h e g = record {
-      next = ap (λ x. x.next) (g.stays refl) ∙ e.next;
+      next = ap (λ x. x.at) (g.stays refl) ∙ e.next;
       count = ap (λ x. x.cell) (g.stays refl) ∙ e.count;
     }
     both-ended false h e g = by-walk p second (g.walks refl (readable p (moved e.next e.count second)))
@@ -115,59 +116,60 @@ module _ {sheet memory words : List ℕ} {bits level asked at cell : ℕ}
     machine-gives word c b e = finished p fresh shown.ends (machine-runs word c b) e.next e.count
 
     -- What the valuer's steps answer: it walks past the first condition or to it,
-    module _ {r : Skipped} (h : SkipsIf state sheet (at + 1) (cell + 1) r) where
-      abbrev pub asked_condition : Operand p 0 r.next r.cell
+    module _ {r : Place} (h : SkipsIf state sheet (record { at = at + 1; cell = cell + 1 }) r) where
+      abbrev pub asked_condition : Operand p 0 r.at r.cell
       asked_condition = picked shown.first shown.second state h
 
       asked-value : {v : Value} → operand_value p fresh asked_condition ≡ v → condition_value ≡ v
       asked-value e = sym (picked_value shown.first shown.second state h fresh) ∙ e
 
-      module _ {c : Valued} (hc : Answers p r.next r.cell fresh c) where
-        pub condition_unknown : c.known ≡ false → whole_value p fresh ≡ Unknown
-        condition_unknown ends = machine-unknown (asked-value (as_unknown (hc 0 (placed p asked_condition)) ends))
+      module _ {c : Option Valued} (hc : Answers p r.at r.cell fresh c) where
+        pub condition_unknown : c ≡ None → Yields p fresh None
+        condition_unknown ends = unknown (machine-unknown (asked-value (as_unknown (hc 0 (placed p asked_condition)) ends)))
 
         -- past the second condition or from it,
-        module _ (there : c.known ≡ true) where
-          condition_gives : Gives (placed p asked_condition) fresh c.word c.next c.cell
+        module _ {v : Valued} (there : c ≡ Some v) where
+          condition_gives : Gives (placed p asked_condition) fresh v.word v.end.at v.end.cell
           condition_gives = as_known (hc 0 (placed p asked_condition)) there
 
-          pub other_condition : not state ≡ true → Operand p 0 c.next c.cell
+          pub other_condition : not state ≡ true → Operand p 0 v.end.at v.end.cell
           other_condition = other shown.first shown.second state h (by_value p condition_gives)
 
-          module _ {q : Skipped} (past : SkipsIf (not state) sheet c.next c.cell q) where
-            pub conditions_ended : Ended p shown.second q.next q.cell
+          module _ {q : Place} (past : SkipsIf (not state) sheet v.end q) where
+            pub conditions_ended : Ended p shown.second q.at q.cell
             conditions_ended = both-ended shown.first shown.second state h (by_value p condition_gives) past
 
-            abbrev pub first_body_lem : Operand p asked q.next q.cell
+            abbrev pub first_body_lem : Operand p asked q.at q.cell
             first_body_lem = behind p conditions_ended shown.third
 
             -- past the first body or to it,
-            module _ {u : Skipped} (to : SkipsIf (run c.word) sheet q.next q.cell u) where
-              abbrev pub running_body : Operand p asked u.next u.cell
-              running_body = picked first_body_lem shown.fourth (run c.word) to
+            module _ {u : Place} (to : SkipsIf (run v.word) sheet q u) where
+              abbrev pub running_body : Operand p asked u.at u.cell
+              running_body = picked first_body_lem shown.fourth (run v.word) to
 
-              body-value : {v : Value} → operand_value p (eqb c.word 1 || fresh) running_body ≡ v → body_value c.word ≡ v
+              body-value : {x : Value} → operand_value p (eqb v.word 1 || fresh) running_body ≡ x → body_value v.word ≡ x
               body-value e =
-                  let anew = eqb c.word 1 || fresh in
+                  let anew = eqb v.word 1 || fresh in
                   let second = operand_value p anew shown.fourth in
-                  ap (λ (k : ℕ). cond (run c.word) second (value p.now anew shown.third.tree k)) (sym conditions_ended.count)
-                  ∙ sym (picked_value first_body_lem shown.fourth (run c.word) to anew) ∙ e
+                  ap (λ (k : ℕ). cond (run v.word) second (value p.now anew shown.third.tree k)) (sym conditions_ended.count)
+                  ∙ sym (picked_value first_body_lem shown.fourth (run v.word) to anew) ∙ e
 
-              module _ {b : Valued} (hb : Answers p u.next u.cell (eqb c.word 1 || fresh) b) where
-                pub body-unknown : b.known ≡ false → whole_value p fresh ≡ Unknown
+              module _ {b : Option Valued} (hb : Answers p u.at u.cell (eqb v.word 1 || fresh) b) where
+                pub body-unknown : b ≡ None → Yields p fresh None
                 body-unknown ends =
-                    machine-runs c.word (asked-value condition_gives.value) (body-value (as_unknown (hb asked (placed p running_body)) ends))
+                    unknown (machine-runs v.word (asked-value condition_gives.value)
+                    (body-value (as_unknown (hb asked (placed p running_body)) ends)))
 
                 -- and past the second body or from it.
-                module _ (here : b.known ≡ true) where
-                  body-gives : Gives (placed p running_body) (eqb c.word 1 || fresh) b.word b.next b.cell
+                module _ {w : Valued} (here : b ≡ Some w) where
+                  body-gives : Gives (placed p running_body) (eqb v.word 1 || fresh) w.word w.end.at w.end.cell
                   body-gives = as_known (hb asked (placed p running_body)) here
 
-                  pub other-body : not (run c.word) ≡ true → Operand p asked b.next b.cell
-                  other-body = other first_body_lem shown.fourth (run c.word) to (by_value p body-gives)
+                  pub other-body : not (run v.word) ≡ true → Operand p asked w.end.at w.end.cell
+                  other-body = other first_body_lem shown.fourth (run v.word) to (by_value p body-gives)
 
-                  pub machine-answer : {e : Skipped} → SkipsIf (not (run c.word)) sheet b.next b.cell e
-                      → Yields p fresh (record { next = e.next; word = b.word; cell = e.cell; known = true })
+                  pub machine-answer : {e : Place} → SkipsIf (not (run v.word)) sheet w.end e
+                      → Yields p fresh (Some (record { word = w.word; end = e }))
                   machine-answer end =
-                      let last = both-ended first_body_lem shown.fourth (run c.word) to (by_value p body-gives) end in
-                      known refl (machine-gives c.word (asked-value condition_gives.value) (body-value body-gives.value) last)
+                      let last = both-ended first_body_lem shown.fourth (run v.word) to (by_value p body-gives) end in
+                      known (machine-gives v.word (asked-value condition_gives.value) (body-value body-gives.value) last)

@@ -1,15 +1,16 @@
 -- The value of a placement by the values of its operands, and what the code's steps make of them.
 use Prim.Native.Nat.{ℕ, ◌+◌, ◌-◌}
 use mathlib.Core.Path.{◌≡◌, sym, ap, subst, ◌∙◌}
-use mathlib.Core.Bool.{Bool, true, false, ◌||◌, cond}
+use mathlib.Core.Bool.{Bool, ◌||◌, cond}
 use mathlib.Core.List.{List}
+use Rattle.std.specs.Prelude.{Option, Some, None}
 use native.Mathlib.Numerals.{add-one}
 use Rattle.sheet.specs.Data.{ValueType, type_of_byte, datum_of}
 use Rattle.sheet.specs.Expressions.{Expression, Unary, Binary, unary, binary, conditional, present_of, reset_of, machine_of, fby}
 use Rattle.sheet.specs.Laws.Lists.{never}
 use Rattle.sheet_walk.specs.Skips.{Readable}
 use Rattle.sheet.specs.declared.Cell.TheVariants.{NotStarted}
-use Rattle.sheet_walk.specs.declared.skip.Skipped.{Skipped}
+use Rattle.sheet_walk.specs.declared.Place.{Place}
 use Rattle.kernel.specs.Values.{truth, when_known}
 use Rattle.kernel.specs.Operations.{unary_value, binary_value}
 use Rattle.kernel.specs.Instant.{value, cell_at, known_or}
@@ -18,24 +19,21 @@ use Rattle.kernel.proofs.Laws.Switches.{machine-value as machine-equation}
 use Rattle.kernel.specs.declared.Value.{Value}
 use Rattle.kernel.specs.declared.Value.TheVariants.{Unknown, Known}
 use Rattle.leaves.specs.declared.Valued.{Valued}
-use Rattle.expression.specs.Places.{Placement, value_of_word, whole_value, Gives, Yields, unknown, known, YieldsAt}
+use Rattle.expression.specs.Places.{Placement, whole_value, Gives, Yields, unknown, known}
 use Rattle.expression.proofs.Views.{Operand, placed, readable, operand-counted, Alone, One, Two, Three, Four}
 
 module _ {sheet memory words : List ℕ} {bits level asked at cell : ℕ} {p : Placement sheet memory words bits level asked at cell}
-    {fresh : Bool} {r : Valued} where
-  -- by whether the value was said to be known
-  pub as_known : Yields p fresh r → r.known ≡ true → Gives p fresh r.word r.next r.cell
-  as_known (unknown e u) t = never (cc)
-  as_known (known e g) t = g
+    {fresh : Bool} where
+  -- by what was handed back
+  pub as_known : {r : Option Valued} {v : Valued} → Yields p fresh r → r ≡ Some v → Gives p fresh v.word v.end.at v.end.cell
+  as_known y e = given (rw e at y)
+    where
+      given : {v : Valued} → Yields p fresh (Some v) → Gives p fresh v.word v.end.at v.end.cell
+      given (known g) = g
 
-  pub as_unknown : Yields p fresh r → r.known ≡ false → whole_value p fresh ≡ Unknown
-  as_unknown (unknown e u) t = u
-  as_unknown (known e g) t = never (cc)
-
-  -- the value, from what is handed back
-  pub word_value : Yields p fresh r → value_of_word r.known (type_of_byte asked) r.word ≡ whole_value p fresh
-  word_value (unknown e u) = rw e (sym u)
-  word_value (known e g) = rw e (sym g.value)
+  pub as_unknown : {r : Option Valued} → Yields p fresh r → r ≡ None → whole_value p fresh ≡ Unknown
+  as_unknown (unknown u) e = u
+  as_unknown (known g) e = never (cc)
 
 module _ {sheet memory words : List ℕ} {bits level asked at cell : ℕ}
     (p : Placement sheet memory words bits level asked at cell) where
@@ -43,11 +41,11 @@ module _ {sheet memory words : List ℕ} {bits level asked at cell : ℕ}
   operand_value {k = k} f o = value p.now f o.tree k
 
   -- What a call answers at a place: the value of every placement there, or the end of every expression there.
-  abbrev pub Answers : (a k : ℕ) → Bool → Valued → Type 0
-  Answers = YieldsAt sheet memory words bits (level - 1)
+  abbrev pub Answers : (a k : ℕ) → Bool → Option Valued → Type 0
+  Answers a k f r = (t : ℕ) (q : Placement sheet memory words bits (level - 1) t a k) → Yields q f r
 
-  abbrev pub Walked : (a k : ℕ) → Skipped → Type 0
-  Walked a k r = (q : Readable sheet a k) → r ≡ record { next = q.next; cell = q.count }
+  abbrev pub Walked : (a k : ℕ) → Place → Type 0
+  Walked a k r = (q : Readable sheet a k) → r ≡ record { at = q.next; cell = q.count }
 
   -- an operand was seen to end at n, with j cells up to there
   pub record Ended {t a k : ℕ} (o : Operand p t a k) (n j : ℕ) : Type 0 where
@@ -57,9 +55,9 @@ module _ {sheet memory words : List ℕ} {bits level asked at cell : ℕ}
   pub by_value : {t a k : ℕ} {f : Bool} {v n j : ℕ} {o : Operand p t a k} → Gives (placed p o) f v n j → Ended o n j
   by_value g = record { next = g.next; count = g.count }
 
-  pub by-walk : {t a k : ℕ} {r : Skipped} (o : Operand p t a k) → r ≡ record { next = o.next; cell = o.count }
-      → Ended o r.next r.cell
-  by-walk o e = record { next = ap (λ x. x.next) e; count = ap (λ x. x.cell) e }
+  pub by-walk : {t a k : ℕ} {r : Place} (o : Operand p t a k) → r ≡ record { at = o.next; cell = o.count }
+      → Ended o r.at r.cell
+  by-walk o e = record { next = ap (λ x. x.at) e; count = ap (λ x. x.cell) e }
 
   -- the operand behind it stands there
   abbrev pub behind : {t u a k n j : ℕ} {o : Operand p t a k} → Ended o n j → Operand p u o.next o.count → Operand p u n j
@@ -71,22 +69,22 @@ module _ {sheet memory words : List ℕ} {bits level asked at cell : ℕ}
     cells = rw e.count o.cells;
   }
 
-  abbrev pub after-value : {t u a k : ℕ} {f : Bool} {r : Valued} (o : Operand p t a k) → Answers a k f r → r.known ≡ true
-      → Operand p u o.next o.count → Operand p u r.next r.cell
+  abbrev pub after-value : {t u a k : ℕ} {f : Bool} {r : Option Valued} {v : Valued} (o : Operand p t a k) → Answers a k f r → r ≡ Some v
+      → Operand p u o.next o.count → Operand p u v.end.at v.end.cell
   after-value {t} o h e = behind (by_value (as_known (h t (placed p o)) e))
 
-  abbrev pub after-walk : {t u a k : ℕ} {r : Skipped} (o : Operand p t a k) → Walked a k r
-      → Operand p u o.next o.count → Operand p u r.next r.cell
+  abbrev pub after-walk : {t u a k : ℕ} {r : Place} (o : Operand p t a k) → Walked a k r
+      → Operand p u o.next o.count → Operand p u r.at r.cell
   after-walk o h = behind (by-walk o (h (readable p o)))
 
   -- and a call there answers for it
-  pub value-behind : {t u a k n j : ℕ} {o : Operand p t a k} → Ended o n j → {f : Bool} {r : Valued} → Answers n j f r
+  pub value-behind : {t u a k n j : ℕ} {o : Operand p t a k} → Ended o n j → {f : Bool} {r : Option Valued} → Answers n j f r
       → (o' : Operand p u o.next o.count) → Yields (placed p o') f r
   value-behind {u = u} {j = j} {o = o} e {f} {r} h o' =
       subst (λ (k : ℕ). Answers o.next k f r) e.count (subst (λ (a : ℕ). Answers a j f r) e.next h) u (placed p o')
 
-  pub walk-behind : {t u a k n j : ℕ} {o : Operand p t a k} → Ended o n j → {r : Skipped} → Walked n j r
-      → (o' : Operand p u o.next o.count) → r ≡ record { next = o'.next; cell = o'.count }
+  pub walk-behind : {t u a k n j : ℕ} {o : Operand p t a k} → Ended o n j → {r : Place} → Walked n j r
+      → (o' : Operand p u o.next o.count) → r ≡ record { at = o'.next; cell = o'.count }
   walk-behind {j = j} {o = o} e {r} h o' =
       subst (λ (k : ℕ). Walked o.next k r) e.count (subst (λ (a : ℕ). Walked a j r) e.next h) (readable p o')
 

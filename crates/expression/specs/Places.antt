@@ -1,6 +1,6 @@
 -- What the words and the bytes of an instant stand for, where an expression stands in them, and what the functions of this crate
 -- answer of it.
-use Rattle.std.specs.Prelude.{ℕ, suc, ◌+◌, ◌*◌, ◌≤◌, ◌<◌, ◌≡◌, Bool, true, false, List, [], ◌∷◌, length, get_or, take, drop}
+use Rattle.std.specs.Prelude.{ℕ, suc, ◌+◌, ◌*◌, ◌≤◌, ◌<◌, ◌≡◌, Bool, true, false, List, [], ◌∷◌, Option, Some, None, length, get_or, take, drop}
 use Rattle.wires.specs.Sets.{member}
 use Rattle.sheet.specs.Data.{ValueType, type_of_byte, is_kept, wire_type, datum_of}
 use Rattle.sheet.specs.Expressions.{Expression, CellForm, cell_forms}
@@ -13,6 +13,8 @@ use Rattle.kernel.specs.declared.Value.{Value}
 use Rattle.kernel.specs.declared.Value.TheVariants.{Unknown, Known}
 use Rattle.leaves.specs.Words.{first_input, first_last}
 use Rattle.leaves.specs.declared.Valued.{Valued}
+use Rattle.sheet_walk.specs.declared.Place.{Place}
+use Rattle.expression.specs.declared.Basis.{Basis}
 
 -- the value of a wire, from whether it is in the set of known wires and its word
 abbrev pub value_of_word : Bool → ValueType → ℕ → Value
@@ -55,8 +57,12 @@ pub record Placement (sheet memory words : List ℕ) (bits level asked at cell :
   pub cells : CellsStand memory now.memory cell (cell_forms tree)
 
 -- whatever type is asked of it
-abbrev pub Placed : (sheet memory words : List ℕ) (bits level at cell : ℕ) → Type 0
-Placed sheet memory words bits level at cell = (asked : ℕ) × Placement sheet memory words bits level asked at cell
+abbrev pub Placed : Basis → (level : ℕ) → Place → Type 0
+Placed b level here = (asked : ℕ) × Placement b.sheet.now b.memory.now b.words.now b.known.bits level asked here.at here.cell
+
+-- its kind byte
+abbrev pub kind_at : Basis → Place → ℕ
+kind_at b here = get_or b.sheet.now here.at 0
 
 module _ {sheet memory words : List ℕ} {bits level asked at cell : ℕ} (p : Placement sheet memory words bits level asked at cell)
     (fresh : Bool) where
@@ -72,12 +78,12 @@ module _ {sheet memory words : List ℕ} {bits level asked at cell : ℕ} (p : P
     pub next : end ≡ p.next
     pub count : following ≡ p.count
 
-  -- what a valuer hands back of it: where the value is unknown, nothing else counts
-  pub data Yields (r : Valued) : Type 0 where
-    unknown : r.known ≡ false → whole_value ≡ Unknown → Yields r
-    known : r.known ≡ true → Gives r.word r.next r.cell → Yields r
+  -- what a valuer hands back of it
+  pub data Yields : Option Valued → Type 0 where
+    unknown : whole_value ≡ Unknown → Yields None
+    known : {v : Valued} → Gives v.word v.end.at v.end.cell → Yields (Some v)
 
 -- it is handed back for every placement there
-abbrev pub YieldsAt : (sheet memory words : List ℕ) (bits level at cell : ℕ) → Bool → Valued → Type 0
-YieldsAt sheet memory words bits level at cell fresh r =
-    (asked : ℕ) (p : Placement sheet memory words bits level asked at cell) → Yields p fresh r
+abbrev pub YieldsAt : Basis → (level : ℕ) → Place → Bool → Option Valued → Type 0
+YieldsAt b level here fresh r =
+    (asked : ℕ) (p : Placement b.sheet.now b.memory.now b.words.now b.known.bits level asked here.at here.cell) → Yields p fresh r

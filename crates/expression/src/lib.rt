@@ -5,38 +5,34 @@
 pub mod value;
 
 ghost use Rattle.std.specs.Prelude.{◌≡◌, false};
-ghost use Rattle.sheet.specs.Data.{type_of_byte, plain_byte};
-ghost use Rattle.expression.specs.Places.{Placement, value_of_word, whole_value};
+ghost use Rattle.sheet.specs.Data.{plain_byte};
+ghost use Rattle.expression.specs.Places.{Placement, whole_value};
 
 use kernel::Value;
 use sheet::data;
+use sheet_walk::Place;
 use wires::Wires;
 
-// The value of a wire with this type byte, whose expression stands at `at` and has as its first cell the one with number `cell`.
-pub fn value_of_wire(
-    sheet: &[u8],
-    memory: &[u8],
-    known: Wires,
-    words: &[u32; 144],
-    byte: u8,
-    at: usize,
-    cell: usize,
-) -> Value
-    requires { Placement sheet.now memory.now words.now known.bits 16 (plain_byte byte) at cell }
-    ensures { (p : Placement sheet.now memory.now words.now known.bits 16 (plain_byte byte) at cell)
-        → result ≡ whole_value p false }
-{
-    let v = value::value_expression(sheet, &memory, known, words, 16, at, cell, false);
-    value_of_word(v.known, data::plain(byte), v.word)
+// What values are worked out from: the bytes of the sheet and of the memory, the wires known so far, and the words of wires, inputs and
+// kept wires' cells. It is lent as one, so that a call hands on one address and copies no slice.
+#[derive(Clone, Copy)]
+pub struct Basis<'a> {
+    pub sheet: &'a [u8],
+    pub memory: &'a [u8],
+    pub words: &'a [u32; 144],
+    pub known: Wires,
 }
 
-// A value of the type, from whether it is known and its word.
-fn value_of_word(known: bool, asked: u8, word: u32) -> Value
-    ensures { result ≡ value_of_word known (type_of_byte asked) word }
+// The value of a wire with this type byte, whose expression stands here.
+pub fn value_of_wire(basis: &Basis, byte: u8, here: Place) -> Value
+    requires { Placement basis.now.sheet.now basis.now.memory.now basis.now.words.now
+        basis.now.known.bits 16 (plain_byte byte) here.at here.cell }
+    ensures { (p : Placement basis.now.sheet.now basis.now.memory.now basis.now.words.now
+        basis.now.known.bits 16 (plain_byte byte) here.at here.cell)
+        → result ≡ whole_value p false }
 {
-    if known {
-        Value::Known(data::datum_of(asked, word))
-    } else {
-        Value::Unknown
+    match value::value_expression(basis, 16, here, false) {
+        Some(v) => Value::Known(data::datum_of(data::plain(byte), v.word)),
+        None => Value::Unknown,
     }
 }

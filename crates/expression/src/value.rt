@@ -6,7 +6,8 @@ ghost use Rattle.expression.specs.Places.{Placed, YieldsAt, kind_at};
 
 use crate::Basis;
 use leaves::{Valued, cells, lasts, leaf};
-use sheet::{kinds, memory};
+use sheet::kinds::Kind;
+use sheet::memory;
 use sheet_walk::{Place, skip, skip_if};
 
 // The value of the expression that stands here. One without operands is valued without a call of its own: these are half of all.
@@ -15,32 +16,46 @@ pub fn value_expression(basis: &Basis, level: usize, here: Place, fresh: bool) -
     requires { Placed basis.now level here }
     ensures { YieldsAt basis.now level here fresh result }
 {
-    if basis.sheet[here.at] < 4 {
+    if Kind::of(basis.sheet[here.at]).is_leaf() {
         return leaf::value_leaf(basis.sheet, basis.known, basis.words, here);
     }
     value_by_kind(basis, level, here, fresh)
 }
 
-// The value of an operation on one or two operands, kinds 4 to 11.
+// The value of an operation on one operand, kinds 4 and 5.
 #[cycle(valuing)]
-fn value_operation(basis: &Basis, level: usize, here: Place, fresh: bool) -> Option<Valued>
+fn value_unary(basis: &Basis, level: usize, here: Place, fresh: bool) -> Option<Valued>
     requires placed { Placed basis.now level here }
-    requires bound { (4 ≤ kind_at basis.now here) × (kind_at basis.now here < 12) }
+    requires bound { (4 ≤ kind_at basis.now here) × (kind_at basis.now here < 6) }
     ensures { YieldsAt basis.now level here fresh result }
 {
-    let kind = basis.sheet[here.at];
+    let kind = Kind::of(basis.sheet[here.at]);
+    let below = level - 1;
+    let first = Place {
+        at: here.at + 1,
+        ..here
+    };
+    let operand = value_expression(basis, below, first, fresh)?;
+    Some(Valued {
+        word: operations::unary(kind, operand.word),
+        end: operand.end,
+    })
+}
+
+// The value of an operation on two operands, kinds 6 to 11.
+#[cycle(valuing)]
+fn value_binary(basis: &Basis, level: usize, here: Place, fresh: bool) -> Option<Valued>
+    requires placed { Placed basis.now level here }
+    requires bound { (6 ≤ kind_at basis.now here) × (kind_at basis.now here < 12) }
+    ensures { YieldsAt basis.now level here fresh result }
+{
+    let kind = Kind::of(basis.sheet[here.at]);
     let below = level - 1;
     let first = Place {
         at: here.at + 1,
         ..here
     };
     let left = value_expression(basis, below, first, fresh)?;
-    if kind < 6 {
-        return Some(Valued {
-            word: operations::unary(kind, left.word),
-            end: left.end,
-        });
-    }
     let right = value_expression(basis, below, left.end, fresh)?;
     Some(Valued {
         word: operations::binary(kind, left.word, right.word),
@@ -118,7 +133,7 @@ fn value_pre(basis: &Basis, level: usize, here: Place, fresh: bool) -> Option<Va
     ensures { YieldsAt basis.now level here fresh result }
 {
     let operand = Place {
-        at: here.at + 1 + kinds::body(basis.sheet[here.at]),
+        at: here.at + 1 + Kind::of(basis.sheet[here.at]).body(),
         cell: here.cell + 1,
     };
     Some(Valued {
@@ -155,20 +170,13 @@ fn value_machine(basis: &Basis, level: usize, here: Place, fresh: bool) -> Optio
     })
 }
 
-// The value of an fby, kind 17: its cell's where it sees it started, and else its left operand's. Kind 18, which gives the cell of the kept wire that
-// it names, and a machine are told from it by one test here, since one more step in `value_by_kind` would keep the fby from being folded into it.
+// The value of an fby, kind 17: its cell's where it sees it started, and else its left operand's.
 #[cycle(valuing)]
-fn value_held(basis: &Basis, level: usize, here: Place, fresh: bool) -> Option<Valued>
+fn value_fby(basis: &Basis, level: usize, here: Place, fresh: bool) -> Option<Valued>
     requires placed { Placed basis.now level here }
-    requires bound { 17 ≤ kind_at basis.now here }
+    requires at_value { kind_at basis.now here ≡ 17 }
     ensures { YieldsAt basis.now level here fresh result }
 {
-    if kinds::LAST <= basis.sheet[here.at] {
-        if basis.sheet[here.at] == kinds::LAST {
-            return Some(lasts::value_last(basis.sheet, basis.words, here));
-        }
-        return value_machine(basis, level, here, fresh);
-    }
     let below = level - 1;
     let first = Place {
         at: here.at + 1,
@@ -194,13 +202,18 @@ fn value_by_kind(basis: &Basis, level: usize, here: Place, fresh: bool) -> Optio
     requires { Placed basis.now level here }
     ensures { YieldsAt basis.now level here fresh result }
 {
-    match basis.sheet[here.at] {
-        0..=3 => leaf::value_leaf(basis.sheet, basis.known, basis.words, here),
-        4..=11 => value_operation(basis, level, here, fresh),
-        12 => value_conditional(basis, level, here, fresh),
-        13 => value_present(basis, level, here, fresh),
-        14 => value_reset(basis, level, here, fresh),
-        15 | 16 => value_pre(basis, level, here, fresh),
-        _ => value_held(basis, level, here, fresh),
+    match Kind::of(basis.sheet[here.at]) {
+        Kind::BooleanConstant | Kind::NumberConstant | Kind::Wire | Kind::Input => {
+            leaf::value_leaf(basis.sheet, basis.known, basis.words, here)
+        }
+        Kind::Conditional => value_conditional(basis, level, here, fresh),
+        Kind::Present => value_present(basis, level, here, fresh),
+        Kind::Reset => value_reset(basis, level, here, fresh),
+        Kind::BooleanPre | Kind::NumberPre => value_pre(basis, level, here, fresh),
+        Kind::Fby => value_fby(basis, level, here, fresh),
+        Kind::Last => Some(lasts::value_last(basis.sheet, basis.words, here)),
+        Kind::Machine => value_machine(basis, level, here, fresh),
+        Kind::Not | Kind::Negate => value_unary(basis, level, here, fresh),
+        _ => value_binary(basis, level, here, fresh),
     }
 }

@@ -1,6 +1,6 @@
 // The kinds of expressions and their table, a column to a number. It rests on nothing; specs/Kinds.antt has the same
 // table, a row to a kind.
-ghost use Rattle.std.specs.Prelude.{◌≡◌, ℕ, ◌≤◌, ◌<◌, [], ◌∷◌, eqb, take, get_or};
+ghost use Rattle.std.specs.Prelude.{◌≡◌, ℕ, ◌≤◌, ◌<◌, [], ◌∷◌, eqb, ltb, take, get_or};
 ghost use Rattle.sheet.specs.Kinds.{kind_count, body_of, cells_of, count_of, read_count_of, own_type_of, typed, operands_of};
 ghost use Rattle.sheet.specs.Kinds.{digit_of, operand_type_in};
 ghost use Rattle.sheet.specs.KindBytes.{byte_of, Decodes};
@@ -101,6 +101,13 @@ impl Kind {
             18 => Kind::Last,
             _ => Kind::Machine,
         }
+    }
+
+    // Whether it is a constant, a wire or an input, which has no operands and no cell.
+    pub fn is_leaf(self) -> bool
+        ensures { result ≡ ltb (byte_of self) 4 }
+    {
+        (self as u8) < 4
     }
 
     // Its digit of a column.

@@ -1,8 +1,12 @@
 -- The functions that value an expression meet their contracts. The level falls from an expression to its operands; an expression
 -- goes by its kind at the same level, if it is no leaf.
-use mathlib.Core.Path.{sym, ◌∙◌}
+use Rattle.std.proofs.Common.{◌≡◌, ◌<◌, ◌⊎◌, inl, inr, sym, ap, ◌∙◌}
+use Rattle.sheet.specs.declared.kinds.Kind.{Kind}
+use Rattle.sheet.specs.declared.kinds.Kind.TheVariants.{BooleanConstant, NumberConstant, Wire, Input}
+use Rattle.sheet.specs.KindBytes.{byte_of}
 use native.Mathlib.Omega.{arith}
-use Rattle.expression.proofs.Views.{opened, placed, readable, leaf-of, last_of, own-cell, state-cell, only-fby, only-machine}
+use borrow.Author.Tests.{ltb-true}
+use Rattle.expression.proofs.Views.{opened, placed, readable, leaf-of, last_of, own-cell, state-cell}
 use Rattle.expression.proofs.Views.{own-types, operation_first, binary-view, conditional-view, present-view, reset-view, fby-view, machine-view}
 use Rattle.expression.proofs.Values.{after-value, after-walk}
 use Rattle.expression.proofs.Machines.{asked_condition, condition_unknown, other_condition, first_body_lem, running_body}
@@ -13,14 +17,11 @@ use Rattle.expression.proofs.Answers.{present-unknown, present-unknown-arm, pres
 use Rattle.expression.proofs.Answers.{reset-unknown, reset-answer, fby-unknown, fby-answer-left, fby-answer-cell}
 use Rattle.expression.proofs.value.+valuing.Goals as goal
 
-pub value_by_kind-bounds-basis-here : goal.value_by_kind-bounds-basis-here
-value_by_kind-bounds-basis-here t c = (opened c.requires.1).good.starts
-
-pub value_by_kind-value_leaf-requires : goal.value_by_kind-value_leaf-requires
-value_by_kind-value_leaf-requires t c = leaf-of c.requires.1 (omega arith)
-
-pub value_by_kind-returns-in-0-to-3 : goal.value_by_kind-returns-in-0-to-3
-value_by_kind-returns-in-0-to-3 t c = λ t p. leaf_yields p c.args.fresh (omega arith) c.value_leaf.ensures
+leaf-few : {kind : Kind} → (kind ≡ BooleanConstant) ⊎ (kind ≡ NumberConstant) ⊎ (kind ≡ Wire) ⊎ (kind ≡ Input) → byte_of kind < 4
+leaf-few (inl is) = rw is (omega arith)
+leaf-few (inr (inl is)) = rw is (omega arith)
+leaf-few (inr (inr (inl is))) = rw is (omega arith)
+leaf-few (inr (inr (inr is))) = rw is (omega arith)
 
 pub value_conditional-overflow_sub-below : goal.value_conditional-overflow_sub-below
 value_conditional-overflow_sub-below t c = (opened c.requires.placed.1).level-left
@@ -70,78 +71,11 @@ value_conditional-returns t c =
 pub value_expression-bounds-basis-here : goal.value_expression-bounds-basis-here
 value_expression-bounds-basis-here t c = (opened c.requires.1).good.starts
 
-pub value_expression-value_leaf-requires : goal.value_expression-value_leaf-requires
-value_expression-value_leaf-requires t c = leaf-of c.requires.1 c.if-basis-here-lt4.true
+pub value_fby-overflow_sub-below : goal.value_fby-overflow_sub-below
+value_fby-overflow_sub-below t c = (opened c.requires.placed.1).level-left
 
-pub value_expression-returns-then-basis-here-lt4 : goal.value_expression-returns-then-basis-here-lt4
-value_expression-returns-then-basis-here-lt4 t c = λ t p. leaf_yields p c.args.fresh c.if-basis-here-lt4.true c.value_leaf.ensures
-
-pub value_held-value_last-requires : goal.value_held-value_last-requires
-value_held-value_last-requires t c = last_of c.requires.placed.1 c.if-basis-here-eq-LAST.true
-
-pub value_held-returns-then-basis-here-eq-LAST : goal.value_held-returns-then-basis-here-eq-LAST
-value_held-returns-then-basis-here-eq-LAST t c = λ t p. last_yields p c.args.fresh c.if-basis-here-eq-LAST.true c.value_last.ensures
-
-pub value_held-value_machine-requires : goal.value_held-value_machine-requires
-value_held-value_machine-requires t c =
-    let is = only-machine c.if-basis-here-ge-LAST.true (opened c.requires.placed.1).good.kind c.if-basis-here-eq-LAST.false in
-    (omega (arith, c.decreases), (c.requires.placed, is))
-
-pub value_held-overflow_sub-below : goal.value_held-overflow_sub-below
-value_held-overflow_sub-below t c = (opened c.requires.placed.1).level-left
-
-pub value_held-overflow_add-first-2 : goal.value_held-overflow_add-first-2
-value_held-overflow_add-first-2 t c = omega (arith, (opened c.requires.placed.1).good.cells)
-
-pub value_held-is_seen-requires : goal.value_held-is_seen-requires
-value_held-is_seen-requires t c =
-    let p = c.requires.placed.1 in
-    (own-cell p (omega (arith, c.requires.bound)) (omega (arith, c.if-basis-here-ge-LAST.false))).stands.fits
-
-pub value_held-skip-right-requires : goal.value_held-skip-right-requires
-value_held-skip-right-requires t c =
-    let p = c.requires.placed.1 in
-    readable p (fby-view p (only-fby c.requires.bound c.if-basis-here-ge-LAST.false)).first
-
-pub value_held-skip-requires : goal.value_held-skip-requires
-value_held-skip-requires t c =
-    let p = c.requires.placed.1 in
-    let w = fby-view p (only-fby c.requires.bound c.if-basis-here-ge-LAST.false) in
-    readable p (after-walk p w.first c.skip-right.ensures w.second)
-
-pub value_held-word_in-requires : goal.value_held-word_in-requires
-value_held-word_in-requires t c =
-    let p = c.requires.placed.1 in
-    (own-cell p (omega (arith, c.requires.bound)) (omega (arith, c.if-basis-here-ge-LAST.false))).stands.fits
-
-pub value_held-returns-then-is_seen : goal.value_held-returns-then-is_seen
-value_held-returns-then-is_seen t c =
-    λ t p. fby-answer-cell p c.args.fresh (only-fby c.requires.bound c.if-basis-here-ge-LAST.false)
-    (sym c.is_seen.ensures ∙ c.if-is_seen.true)
-    c.word_in.ensures c.skip-right.ensures c.skip.ensures
-
-pub value_held-value_expression-requires : goal.value_held-value_expression-requires
-value_held-value_expression-requires t c =
-    let p = c.requires.placed.1 in
-    let of = only-fby c.requires.bound c.if-basis-here-ge-LAST.false in
-    (omega (arith, c.decreases, (opened p).level-left), (_, placed p (fby-view p of).first))
-
-pub value_held-returns-in_err-left : goal.value_held-returns-in_err-left
-value_held-returns-in_err-left t c =
-    λ t p. rw c.from_residual.ensures
-    (fby-unknown p c.args.fresh (only-fby c.requires.bound c.if-basis-here-ge-LAST.false)
-    (sym c.is_seen.ensures ∙ c.if-is_seen.false) c.value_expression.ensures c.in_err-left.was)
-
-pub value_held-skip-requires-2 : goal.value_held-skip-requires-2
-value_held-skip-requires-2 t c =
-    let p = c.requires.placed.1 in
-    let w = fby-view p (only-fby c.requires.bound c.if-basis-here-ge-LAST.false) in
-    readable p (after-value p w.first c.value_expression.ensures c.in_ok-left.was w.second)
-
-pub value_held-returns : goal.value_held-returns
-value_held-returns t c =
-    λ t p. fby-answer-left p c.args.fresh (only-fby c.requires.bound c.if-basis-here-ge-LAST.false)
-    (sym c.is_seen.ensures ∙ c.if-is_seen.false) c.value_expression.ensures c.in_ok-left.was c.skip-2.ensures
+pub value_fby-overflow_add-first-2 : goal.value_fby-overflow_add-first-2
+value_fby-overflow_add-first-2 t c = omega (arith, (opened c.requires.placed.1).good.cells)
 
 pub value_machine-overflow_sub-below : goal.value_machine-overflow_sub-below
 value_machine-overflow_sub-below t c = (opened c.requires.placed.1).level-left
@@ -207,42 +141,6 @@ value_machine-returns t c =
     λ t p. machine-answer p c.requires.at_value c.args.fresh c.is_second_state-state.ensures c.skip_if-asked.ensures
     c.value_expression.ensures c.in_ok-condition.was c.skip_if-bodies.ensures c.skip_if-run.ensures
     c.value_by_kind.ensures c.in_ok-body.was c.skip_if.ensures
-
-pub value_operation-overflow_sub-below : goal.value_operation-overflow_sub-below
-value_operation-overflow_sub-below t c = (opened c.requires.placed.1).level-left
-
-pub value_operation-value_expression-requires : goal.value_operation-value_expression-requires
-value_operation-value_expression-requires t c =
-    let p = c.requires.placed.1 in
-    let first = operation_first p _ (own-types p) c.requires.bound.0 c.requires.bound.1 in
-    (omega (arith, c.decreases, (opened p).level-left), (_, placed p first))
-
-pub value_operation-returns-in_err-left : goal.value_operation-returns-in_err-left
-value_operation-returns-in_err-left t c =
-    λ t p. rw c.from_residual.ensures
-    (operation_unknown p c.args.fresh c.value_expression.ensures c.requires.bound.0 c.requires.bound.1 c.in_err-left.was)
-
-pub value_operation-returns-then-kind-lt6 : goal.value_operation-returns-then-kind-lt6
-value_operation-returns-then-kind-lt6 t c =
-    λ t p. unary-answer p c.args.fresh c.value_expression.ensures c.in_ok-left.was c.requires.bound.0 c.if-kind-lt6.true c.unary.ensures
-
-pub value_operation-value_expression-requires-2 : goal.value_operation-value_expression-requires-2
-value_operation-value_expression-requires-2 t c =
-    let p = c.requires.placed.1 in
-    let w = binary-view p _ (own-types p) (omega (arith, c.if-kind-lt6.false)) c.requires.bound.1 in
-    let second = after-value p w.first c.value_expression.ensures c.in_ok-left.was w.second in
-    (omega (arith, c.decreases, (opened p).level-left), (_, placed p second))
-
-pub value_operation-returns-in_err-right : goal.value_operation-returns-in_err-right
-value_operation-returns-in_err-right t c =
-    λ t p. rw c.from_residual-in_err-right.ensures
-    (binary-unknown p c.args.fresh c.value_expression.ensures c.in_ok-left.was (omega (arith, c.if-kind-lt6.false)) c.requires.bound.1
-    c.value_expression-2.ensures c.in_err-right.was)
-
-pub value_operation-returns : goal.value_operation-returns
-value_operation-returns t c =
-    λ t p. binary-answer p c.args.fresh c.value_expression.ensures c.in_ok-left.was (omega (arith, c.if-kind-lt6.false)) c.requires.bound.1
-    c.value_expression-2.ensures c.in_ok-right.was c.binary.ensures
 
 pub value_present-overflow_sub-below : goal.value_present-overflow_sub-below
 value_present-overflow_sub-below t c = (opened c.requires.placed.1).level-left
@@ -323,3 +221,131 @@ value_reset-value_by_kind-requires t c =
 pub value_reset-returns : goal.value_reset-returns
 value_reset-returns t c =
     λ t p. reset-answer p c.args.fresh c.requires.at_value c.value_expression.ensures c.in_ok-condition.was c.value_by_kind.ensures
+
+pub value_by_kind-bounds-basis-here : goal.value_by_kind-bounds-basis-here
+value_by_kind-bounds-basis-here t c = (opened c.requires.1).good.starts
+
+pub value_by_kind-value_leaf-requires : goal.value_by_kind-value_leaf-requires
+value_by_kind-value_leaf-requires t c = leaf-of c.requires.1 (rw (← c.of.ensures) (leaf-few c.in-BooleanConstant.is))
+
+pub value_by_kind-returns-in-BooleanConstant : goal.value_by_kind-returns-in-BooleanConstant
+value_by_kind-returns-in-BooleanConstant t c =
+    λ t p. leaf_yields p c.args.fresh (rw (← c.of.ensures) (leaf-few c.in-BooleanConstant.is)) c.value_leaf.ensures
+
+pub value_expression-value_leaf-requires : goal.value_expression-value_leaf-requires
+value_expression-value_leaf-requires t c = leaf-of c.requires.1 (rw (← c.of.ensures) (ltb-true _ _ (sym c.is_leaf.ensures ∙ c.if-is_leaf.true)))
+
+pub value_expression-returns-then-is_leaf : goal.value_expression-returns-then-is_leaf
+value_expression-returns-then-is_leaf t c = λ t p. leaf_yields p c.args.fresh (rw (← c.of.ensures) (ltb-true _ _ (sym c.is_leaf.ensures ∙ c.if-is_leaf.true))) c.value_leaf.ensures
+
+pub value_fby-is_seen-requires : goal.value_fby-is_seen-requires
+value_fby-is_seen-requires t c =
+    let p = c.requires.placed.1 in
+    (own-cell p (omega (arith, c.requires.at_value)) (omega (arith, c.requires.at_value))).stands.fits
+
+pub value_fby-skip-right-requires : goal.value_fby-skip-right-requires
+value_fby-skip-right-requires t c =
+    let p = c.requires.placed.1 in
+    readable p (fby-view p c.requires.at_value).first
+
+pub value_fby-skip-requires : goal.value_fby-skip-requires
+value_fby-skip-requires t c =
+    let p = c.requires.placed.1 in
+    let w = fby-view p c.requires.at_value in
+    readable p (after-walk p w.first c.skip-right.ensures w.second)
+
+pub value_fby-word_in-requires : goal.value_fby-word_in-requires
+value_fby-word_in-requires t c =
+    let p = c.requires.placed.1 in
+    (own-cell p (omega (arith, c.requires.at_value)) (omega (arith, c.requires.at_value))).stands.fits
+
+pub value_fby-returns-then-is_seen : goal.value_fby-returns-then-is_seen
+value_fby-returns-then-is_seen t c =
+    λ t p. fby-answer-cell p c.args.fresh c.requires.at_value
+    (sym c.is_seen.ensures ∙ c.if-is_seen.true)
+    c.word_in.ensures c.skip-right.ensures c.skip.ensures
+
+pub value_fby-value_expression-requires : goal.value_fby-value_expression-requires
+value_fby-value_expression-requires t c =
+    let p = c.requires.placed.1 in
+    let of = c.requires.at_value in
+    (omega (arith, c.decreases, (opened p).level-left), (_, placed p (fby-view p of).first))
+
+pub value_fby-returns-in_err-left : goal.value_fby-returns-in_err-left
+value_fby-returns-in_err-left t c =
+    λ t p. rw c.from_residual.ensures
+    (fby-unknown p c.args.fresh c.requires.at_value
+    (sym c.is_seen.ensures ∙ c.if-is_seen.false) c.value_expression.ensures c.in_err-left.was)
+
+pub value_fby-skip-requires-2 : goal.value_fby-skip-requires-2
+value_fby-skip-requires-2 t c =
+    let p = c.requires.placed.1 in
+    let w = fby-view p c.requires.at_value in
+    readable p (after-value p w.first c.value_expression.ensures c.in_ok-left.was w.second)
+
+pub value_fby-returns : goal.value_fby-returns
+value_fby-returns t c =
+    λ t p. fby-answer-left p c.args.fresh c.requires.at_value
+    (sym c.is_seen.ensures ∙ c.if-is_seen.false) c.value_expression.ensures c.in_ok-left.was c.skip-2.ensures
+
+pub value_unary-overflow_sub-below : goal.value_unary-overflow_sub-below
+value_unary-overflow_sub-below t c = (opened c.requires.placed.1).level-left
+
+pub value_binary-overflow_sub-below : goal.value_binary-overflow_sub-below
+value_binary-overflow_sub-below t c = (opened c.requires.placed.1).level-left
+
+pub value_unary-value_expression-requires : goal.value_unary-value_expression-requires
+value_unary-value_expression-requires t c =
+    let p = c.requires.placed.1 in
+    let first = operation_first p _ (own-types p) c.requires.bound.0 (omega (arith, c.requires.bound)) in
+    (omega (arith, c.decreases, (opened p).level-left), (_, placed p first))
+
+pub value_binary-value_expression-requires : goal.value_binary-value_expression-requires
+value_binary-value_expression-requires t c =
+    let p = c.requires.placed.1 in
+    let first = operation_first p _ (own-types p) (omega (arith, c.requires.bound)) c.requires.bound.1 in
+    (omega (arith, c.decreases, (opened p).level-left), (_, placed p first))
+
+pub value_unary-returns-in_err-operand : goal.value_unary-returns-in_err-operand
+value_unary-returns-in_err-operand t c =
+    λ t p. rw c.from_residual.ensures
+    (operation_unknown p c.args.fresh c.value_expression.ensures c.requires.bound.0 (omega (arith, c.requires.bound)) c.in_err-operand.was)
+
+pub value_binary-returns-in_err-left : goal.value_binary-returns-in_err-left
+value_binary-returns-in_err-left t c =
+    λ t p. rw c.from_residual.ensures
+    (operation_unknown p c.args.fresh c.value_expression.ensures (omega (arith, c.requires.bound)) c.requires.bound.1 c.in_err-left.was)
+
+pub value_unary-returns : goal.value_unary-returns
+value_unary-returns t c =
+    λ t p. unary-answer p c.args.fresh c.value_expression.ensures c.in_ok-operand.was c.requires.bound.0 c.requires.bound.1 (rw c.of-kind.ensures at c.unary.ensures)
+
+pub value_binary-value_expression-requires-2 : goal.value_binary-value_expression-requires-2
+value_binary-value_expression-requires-2 t c =
+    let p = c.requires.placed.1 in
+    let w = binary-view p _ (own-types p) c.requires.bound.0 c.requires.bound.1 in
+    let second = after-value p w.first c.value_expression.ensures c.in_ok-left.was w.second in
+    (omega (arith, c.decreases, (opened p).level-left), (_, placed p second))
+
+pub value_binary-returns-in_err-right : goal.value_binary-returns-in_err-right
+value_binary-returns-in_err-right t c =
+    λ t p. rw c.from_residual-in_err-right.ensures
+    (binary-unknown p c.args.fresh c.value_expression.ensures c.in_ok-left.was c.requires.bound.0 c.requires.bound.1
+    c.value_expression-2.ensures c.in_err-right.was)
+
+pub value_binary-returns : goal.value_binary-returns
+value_binary-returns t c =
+    λ t p. binary-answer p c.args.fresh c.value_expression.ensures c.in_ok-left.was c.requires.bound.0 c.requires.bound.1
+    c.value_expression-2.ensures c.in_ok-right.was (rw c.of-kind.ensures at c.binary.ensures)
+
+pub value_by_kind-of-requires : goal.value_by_kind-of-requires
+value_by_kind-of-requires t c = (opened c.requires.1).good.kind
+
+pub value_expression-of-requires : goal.value_expression-of-requires
+value_expression-of-requires t c = (opened c.requires.1).good.kind
+
+pub value_by_kind-value_last-requires : goal.value_by_kind-value_last-requires
+value_by_kind-value_last-requires t c = last_of c.requires.1 (sym c.of.ensures ∙ ap byte_of c.in-Last.is)
+
+pub value_by_kind-returns-in-Last : goal.value_by_kind-returns-in-Last
+value_by_kind-returns-in-Last t c = λ t p. last_yields p c.args.fresh (sym c.of.ensures ∙ ap byte_of c.in-Last.is) c.value_last.ensures

@@ -12,14 +12,17 @@ decreases-value_conditional l = 4 * l.level + 1
 abbrev pub decreases-value_expression : goal.decreases-value_expression
 decreases-value_expression l = 4 * l.level + 3
 
-abbrev pub decreases-value_held : goal.decreases-value_held
-decreases-value_held l = 4 * l.level + 1
+abbrev pub decreases-value_fby : goal.decreases-value_fby
+decreases-value_fby l = 4 * l.level + 1
 
 abbrev pub decreases-value_machine : goal.decreases-value_machine
 decreases-value_machine l = 4 * l.level
 
-abbrev pub decreases-value_operation : goal.decreases-value_operation
-decreases-value_operation l = 4 * l.level + 1
+abbrev pub decreases-value_unary : goal.decreases-value_unary
+decreases-value_unary l = 4 * l.level + 1
+
+abbrev pub decreases-value_binary : goal.decreases-value_binary
+decreases-value_binary l = 4 * l.level + 1
 
 abbrev pub decreases-value_present : goal.decreases-value_present
 decreases-value_present l = 4 * l.level + 1

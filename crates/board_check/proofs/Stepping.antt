@@ -10,7 +10,6 @@ use Rattle.sheet.specs.Typing.{Pairwise}
 use Rattle.sheet.proofs.Laws.Checked.{check_refused, CheckPassed}
 use Rattle.sheet.specs.Laws.Refusals.{sheet-refused-inside}
 use Rattle.sheet.specs.declared.Refusal.{Refusal}
-use Rattle.sheet.specs.declared.Checked.TheVariants.{Refused}
 use Rattle.sheet_expressions.specs.Map.{CellNoted}
 use Rattle.buffers.specs.Laws.{noted-hold}
 use Rattle.board.specs.Boards.{placed_from, length_at, length_place, begin_of, bytes_of}
@@ -21,6 +20,7 @@ use Rattle.board_check.specs.Steps.{further_of, Collected, Room, Further, Steps,
 use Rattle.board_check.specs.declared.Begin.{Begin}
 use Rattle.board_check.specs.declared.Step.TheVariants.{Refused as Stopped, Next}
 use Rattle.board_check.proofs.Passing.{collected_more}
+use Rattle.sheet.specs.Outcomes.{refused_at}
 
 -- the bytes that are lent
 abbrev pub lent : (board : List ℕ) (at long : ℕ) → List ℕ
@@ -32,7 +32,7 @@ module _ (board : List ℕ) (here : Begin) (long : ℕ) (is : long ≡ length_at
 
   -- the place of a refusal lies in the board
   pub place-within : here.at + 2 + length_at board here.at ≤ length board → {why : Refusal} {place : ℕ}
-      → check_of bytes ≡ Refused why place → here.at + 2 + place ≤ length board
+      → check_of bytes ≡ refused_at why place → here.at + 2 + place ≤ length board
   place-within l e =
       let sized : length bytes ≤ long = simp (length-take, length-drop) (omega arith) in
       omega (arith, (sheet-refused-inside bytes (check_refused bytes e)).bounded)
@@ -44,7 +44,7 @@ module _ (board : List ℕ) (here : Begin) (long : ℕ) (is : long ≡ length_at
     same_bytes_lem : bytes ≡ bytes_of board k
     same_bytes_lem = let all : here.at + 2 + long - (here.at + 2) ≡ long = omega arith in rw (all, is, at-is)
 
-    pub step-stops : (forms types : List ℕ) {why : Refusal} {at : ℕ} → check_of bytes ≡ Refused why at
+    pub step-stops : (forms types : List ℕ) {why : Refusal} {at : ℕ} → check_of bytes ≡ refused_at why at
         → Steps board k here done forms types (placed_from (begin_of board k) (sheet_of (bytes_of board k))) (Stopped why (here.at + 2 + at))
     step-stops forms types e = rw (← same_bytes_lem, check_refused bytes e, at-is) stops
 

@@ -13,7 +13,7 @@ ghost use Rattle.board_check.specs.Found.{behind, Finds};
 ghost use Rattle.board_check.specs.Steps.{further_of, Collected, Room, Steps, Walks};
 
 use buffers::Tested;
-use sheet::{Checked, Refusal};
+use sheet::Refusal;
 
 // Where a sheet of a board and its parts begin: the place of its length, and how many cells, inputs and outputs the sheets before it have.
 #[derive(Clone, Copy)]
@@ -139,22 +139,17 @@ fn check_sheet(board: &[u8], here: Begin, forms: &mut [u16; 512], types: &mut [u
     let mut reads = [0u64; 64];
     let mut entries = [0u16; 64];
     match sheet_check::check_map(sheet, &mut places, &mut firsts, &mut reads, &mut entries) {
-        Checked::Refused { why, place } => {
-            let counted = begin + place;
+        Err(refused) => {
+            let counted = begin + refused.place;
             Step::Refused {
-                why,
+                why: refused.why,
                 place: counted,
             }
         }
-        Checked::Passed {
-            inputs,
-            wires: _,
-            outputs,
-            cells,
-        } => {
-            put_forms(forms, here.cells, &entries, cells);
-            put_types(types, here.inputs, &sheet[1..1 + inputs]);
-            let next = further(here, end, cells, inputs, outputs);
+        Ok(counts) => {
+            put_forms(forms, here.cells, &entries, counts.cells);
+            put_types(types, here.inputs, &sheet[1..1 + counts.inputs]);
+            let next = further(here, end, counts.cells, counts.inputs, counts.outputs);
             Step::Next { next }
         }
     }

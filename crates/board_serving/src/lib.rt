@@ -50,7 +50,7 @@ fn run_anew(
     ensures { Leaves (served_call every_cell true sheet.now memory.old input.now output.old)
         result memory.new output.new }
 {
-    sheet_start::start(sheet, fresh);
+    let _ = sheet_start::start(sheet, fresh);
     match in_rounds::instant(sheet, fresh, input, output) {
         InRounds::Refused { why, place } => InRounds::Refused { why, place },
         InRounds::Accepted { rounds } => {

@@ -16,11 +16,11 @@ use Rattle.sheet.specs.declared.Datum.{Datum}
 use Rattle.sheet.specs.declared.Cell.{Cell}
 use Rattle.sheet.specs.declared.Refusal.{Refusal}
 use Rattle.sheet.specs.declared.Refusal.TheVariants.{OutputLength}
-use Rattle.sheet.specs.declared.Checked.TheVariants.{Refused as CheckRefused}
 use Rattle.kernel.specs.Calls.{Given, given_of}
 use Rattle.buffers.specs.Tests.{tested_of, and_tested, buffers_tested}
 use Rattle.buffers.specs.declared.Tested.{Tested}
 use Rattle.buffers.specs.declared.Tested.TheVariants.{Refused, Fine}
+use Rattle.sheet.specs.Outcomes.{refused_at}
 
 -- the tests by these counts are those of the sheet
 pub own-tests : {s : List ℕ} {i w o k : ℕ} (p : CheckPassed s i w o k) (memory input output : List ℕ)
@@ -35,7 +35,7 @@ pub data Tells (sheet : Sheet) (o : Outcome Given) : Tested → Type 0 where
   grants : (given : Given) → o ≡ result given → given.sheet ≡ sheet → Tells sheet o Fine
 
 module _ (s memory input output : List ℕ) where
-  pub sheet-refused : {why : Refusal} {place : ℕ} → check_of s ≡ CheckRefused why place → given_of s memory input output ≡ refusal why place
+  pub sheet-refused : {why : Refusal} {place : ℕ} → check_of s ≡ refused_at why place → given_of s memory input output ≡ refusal why place
   unfolding given_of
   sheet-refused e = rw (check_refused s e)
 

@@ -8,7 +8,7 @@ ghost use Rattle.given.specs.Grants.{Grants, parts_of};
 
 use buffers::Tested;
 use leaves::{inputs, lasts};
-use sheet::{Checked, Refusal};
+use sheet::Refusal;
 
 // What the checks of an instant's buffers answer: the first refusal 1 to 16 with its place, or where the types of the wires and the
 // outputs stand in the sheet.
@@ -44,13 +44,15 @@ pub fn given_of(
 {
     let mut forms = [0u16; 64];
     match sheet_check::check_map(sheet, places, firsts, reads, &mut forms) {
-        Checked::Refused { why, place } => Given::Refused { why, place },
-        Checked::Passed {
-            inputs,
-            wires,
-            outputs,
-            cells,
-        } => {
+        Err(refused) => Given::Refused {
+            why: refused.why,
+            place: refused.place,
+        },
+        Ok(counts) => {
+            let inputs = counts.inputs;
+            let wires = counts.wires;
+            let outputs = counts.outputs;
+            let cells = counts.cells;
             let types = &sheet[1..1 + inputs];
             match buffers::check_buffers(&forms, cells, types, outputs, memory, input, output) {
                 Tested::Refused { why, place } => Given::Refused { why, place },

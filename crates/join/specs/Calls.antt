@@ -2,22 +2,23 @@
 use Rattle.std.specs.Prelude.{ℕ, ◌+◌, ◌<◌, ◌≡◌, Bool, ◌||◌, cond, List, eqb, ltb, length}
 use Rattle.sheet.specs.Outcomes.{packed_refusal}
 use Rattle.sheet.specs.Sheets.{check_of}
-use Rattle.sheet.specs.declared.Checked.{Checked}
-use Rattle.sheet.specs.declared.Checked.TheVariants.{Refused as RefusedSheet, Passed}
 use Rattle.sheet.specs.declared.Refusal.{Refusal}
 use Rattle.sheet.specs.declared.Refusal.TheVariants.{OutputLength, JoinedLimit}
 use Rattle.join.specs.Bytes.{joined_bytes}
 use Rattle.sheet.specs.declared.Counts.{Counts}
 use Rattle.join.specs.declared.Joining.{Joining}
 use Rattle.join.specs.declared.Joining.TheVariants.{FirstRefused, SecondRefused, Refused, Done}
+use Rattle.sheet.specs.declared.Refused.{Refused as SheetRefused}
+use Rattle.std.specs.Prelude.{Ok, Err}
+use Rattle.std.specs.Prelude.{Result}
 
 -- the check's answer about a sheet that passes with these counts
-abbrev pub passed_with : Counts → Checked
-passed_with counts = Passed counts.inputs counts.wires counts.outputs counts.cells
+abbrev pub passed_with : Counts → Result Counts SheetRefused
+passed_with counts = Ok counts
 
-abbrev pub on_checked : {A : Type 0} → Checked → (Refusal → ℕ → A) → (Counts → A) → A
-on_checked (RefusedSheet why place) f g = f why place
-on_checked (Passed inputs wires outputs cells) f g = g (record { inputs = inputs; wires = wires; outputs = outputs; cells = cells })
+abbrev pub on_checked : {A : Type 0} → Result Counts SheetRefused → (Refusal → ℕ → A) → (Counts → A) → A
+on_checked (Err r) f g = f r.why r.place
+on_checked (Ok counts) f g = g counts
 
 -- a joined count or the joined length is above its limit
 abbrev pub is_above : (first second : Counts) → (long : ℕ) → Bool

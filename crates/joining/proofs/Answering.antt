@@ -10,7 +10,6 @@ use Rattle.sheet.specs.Sheets.{check_of}
 use Rattle.sheet.proofs.Laws.Typing.{sheet-reads}
 use Rattle.sheet.specs.declared.Refusal.{Refusal}
 use Rattle.sheet.specs.declared.Refusal.TheVariants.{OutputLength, JoinedLimit}
-use Rattle.sheet.specs.declared.Checked.TheVariants.{Refused as Stopped}
 use Rattle.join.specs.Bytes.{joined_bytes}
 use Rattle.join.specs.Calls.{is_above, join_answer, join_call, Leaves}
 use Rattle.join.proofs.Laws.Bytes.{joined_length}
@@ -19,8 +18,9 @@ use Rattle.joining.specs.Counting.{Passes, Few}
 use Rattle.joining.specs.Writing.{Joinable}
 use Rattle.joining.proofs.Cutting.{found-by}
 use Rattle.sheet.specs.declared.Counts.{Counts}
+use Rattle.sheet.specs.Outcomes.{refused_at}
 
-pub first_stops : (s t buffer : List ℕ) {why : Refusal} {place : ℕ} → check_of s ≡ Stopped why place
+pub first_stops : (s t buffer : List ℕ) {why : Refusal} {place : ℕ} → check_of s ≡ refused_at why place
     → Leaves (join_call s t buffer) (FirstRefused why place) buffer
 unfolding join_call join_answer
 first_stops s t buffer e = rw e (record { answers = refl; writes = refl })
@@ -31,7 +31,7 @@ module _ (s : List ℕ) {counts : Counts} (passes : Passes s counts) where
       let found = found-by s passes in
       record { inputs = found.few-inputs; wires = found.few-wires; outputs = found.few-outputs; cells = found.few-cells }
 
-  pub second-stops : (t buffer : List ℕ) {why : Refusal} {place : ℕ} → check_of t ≡ Stopped why place
+  pub second-stops : (t buffer : List ℕ) {why : Refusal} {place : ℕ} → check_of t ≡ refused_at why place
       → Leaves (join_call s t buffer) (SecondRefused why place) buffer
   unfolding join_call join_answer
   second-stops t buffer e = rw (passes, e) (record { answers = refl; writes = refl })

@@ -33,7 +33,7 @@ section-length s h = simp (length-take, length-drop) (omega arith)
 -- the sheet that the check finds
 pub found-by : (s : List ℕ) {counts : Counts} → Passes s counts
     → CheckPassed s counts.inputs counts.wires counts.outputs counts.cells
-found-by s {counts} = check_passed s counts.inputs counts.wires counts.outputs counts.cells
+found-by s {counts} = check_passed s counts
 
 -- the sections of a sheet that passes
 record Cut (s : List ℕ) (counts : Counts) : Type 0 where

@@ -9,7 +9,7 @@ ghost use Rattle.join.specs.Calls.{is_above, join_call, Leaves, packed_joining, 
 ghost use Rattle.joining.specs.Counting.{Passes, Few};
 
 use join::Joining;
-use sheet::{Checked, Counts, Refusal};
+use sheet::{Counts, Refusal};
 
 // Joins two sheets: 1 to 11 of the first, then of the second, 23 where a joined count or length is above its limit, 16 where the buffer has
 // not the joined length; else the buffer gets the joined sheet.
@@ -17,21 +17,11 @@ pub fn join(first: &[u8], second: &[u8], joined: &mut [u8]) -> Joining
     ensures { Leaves (join_call first.now second.now joined.old) result joined.new }
 {
     match sheet_check::check(first) {
-        Checked::Refused { why, place } => Joining::FirstRefused { why, place },
-        Checked::Passed {
-            inputs,
-            wires,
-            outputs,
-            cells,
-        } => {
-            let counts = Counts {
-                inputs,
-                wires,
-                outputs,
-                cells,
-            };
-            join_to(first, counts, second, joined)
-        }
+        Err(refused) => Joining::FirstRefused {
+            why: refused.why,
+            place: refused.place,
+        },
+        Ok(counts) => join_to(first, counts, second, joined),
     }
 }
 
@@ -41,21 +31,11 @@ fn join_to(first: &[u8], counts: Counts, second: &[u8], joined: &mut [u8]) -> Jo
     ensures { Leaves (join_call first.now second.now joined.old) result joined.new }
 {
     match sheet_check::check(second) {
-        Checked::Refused { why, place } => Joining::SecondRefused { why, place },
-        Checked::Passed {
-            inputs,
-            wires,
-            outputs,
-            cells,
-        } => {
-            let others = Counts {
-                inputs,
-                wires,
-                outputs,
-                cells,
-            };
-            join_both(first, counts, second, others, joined)
-        }
+        Err(refused) => Joining::SecondRefused {
+            why: refused.why,
+            place: refused.place,
+        },
+        Ok(others) => join_both(first, counts, second, others, joined),
     }
 }
 

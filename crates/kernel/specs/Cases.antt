@@ -17,8 +17,6 @@ use Rattle.sheet.specs.Reads.{wires_read}
 use Rattle.sheet.specs.declared.Datum.TheVariants.{Boolean, Number}
 use Rattle.sheet.specs.declared.Cell.{Cell}
 use Rattle.sheet.specs.declared.Cell.TheVariants.{NotStarted, Started}
-use Rattle.sheet.specs.declared.Checked.{Checked}
-use Rattle.sheet.specs.declared.Checked.TheVariants.{Refused, Passed}
 use Rattle.closure.specs.Closures.{through, lowest_loop}
 use Rattle.kernel.specs.Depths.{greatest_depth, deepest, depth_within, depth_of, wires_below}
 use Rattle.kernel.specs.Calls.{InstantCall, rounds_call, scheduled_call, packed_rounds, packed_scheduled}
@@ -30,6 +28,10 @@ use Rattle.kernel.specs.Instants.{reads_at, value_of_wire, values, stored_cells,
 use Rattle.kernel.specs.Schedules.{not_new, too_early, schedule_of, pass_from, pass}
 use Rattle.kernel.specs.Systems as System
 use Rattle.kernel.specs.declared.InRounds.{InRounds}
+use Rattle.sheet.specs.declared.Counts.{Counts}
+use Rattle.sheet.specs.declared.Refused.{Refused}
+use Rattle.std.specs.Prelude.{Ok, Err}
+use Rattle.std.specs.Prelude.{Result}
 
 -- what an instant in rounds gives: the rounds and the outputs, or a refusal's number and place
 pub data Expected : Type 0 where
@@ -70,13 +72,13 @@ row zs = row_bytes (map Number zs)
 abbrev pub rubbish : ℕ → List ℕ
 rubbish n = replicate n 170
 
-abbrev pub output_bytes : Checked → ℕ
-output_bytes (Refused why place) = 0
-output_bytes (Passed inputs wires outputs cells) = 4 * outputs
+abbrev pub output_bytes : Result Counts Refused → ℕ
+output_bytes (Err r) = 0
+output_bytes (Ok counts) = 4 * counts.outputs
 
-abbrev pub memory_size : Checked → ℕ
-memory_size (Refused why place) = 0
-memory_size (Passed inputs wires outputs cells) = 5 * cells
+abbrev pub memory_size : Result Counts Refused → ℕ
+memory_size (Err r) = 0
+memory_size (Ok counts) = 5 * counts.cells
 
 abbrev pub as_expected : Expected → InstantCall InRounds → (memory output : List ℕ) → Bool
 as_expected (accepts rounds zs) call memory output = eqb (packed_rounds call.answer) rounds && same_bytes call.output (row zs)

@@ -99,9 +99,9 @@ fn start(board: &[u8; 175], memory: &mut [u8])
     requires { length memory.old ≡ 40 }
 {
     let whole = &board[..];
-    sheet_start::start(&whole[3..69], &mut memory[0..10]);
-    sheet_start::start(&whole[71..129], &mut memory[10..35]);
-    sheet_start::start(&whole[131..175], &mut memory[35..40]);
+    let _ = sheet_start::start(&whole[3..69], &mut memory[0..10]);
+    let _ = sheet_start::start(&whole[71..129], &mut memory[10..35]);
+    let _ = sheet_start::start(&whole[131..175], &mut memory[35..40]);
 }
 
 // Makes the tick of a row, prints its line, and hands back what the next tick is given.

@@ -12,7 +12,7 @@ use Rattle.sheet.proofs.Laws.Checked.{check_passed}
 use Rattle.sheet.specs.Laws.Headers.{SheetRead}
 use Rattle.sheet.proofs.Laws.Typing.{passed_check}
 use Rattle.sheet.specs.declared.Refusal.{Refusal}
-use Rattle.sheet.specs.declared.Checked.TheVariants.{Passed}
+use Rattle.sheet.specs.declared.Counts.{Counts}
 use Rattle.sheet_expressions.specs.Map.{Mapped, wires_of, EachHoldsJust}
 use Rattle.kernel.specs.Instants.{wire_count, reads_at}
 use Rattle.kernel.proofs.Laws.Reads.{reads-of-tree}
@@ -21,6 +21,7 @@ use Rattle.maker.specs.Making.{maker_outcome, maker_call}
 use Rattle.maker.specs.Placing.{Makes}
 use Rattle.maker.specs.declared.Made.{Made}
 use Rattle.maker.specs.declared.Made.TheVariants.{Refused}
+use Rattle.std.specs.Prelude.{Ok}
 
 pub record Passes (s rows : List ℕ) (wires : ℕ) : Type 0 where
   pub sheet : Sheet
@@ -31,14 +32,14 @@ pub record Passes (s rows : List ℕ) (wires : ℕ) : Type 0 where
   pub held : EachHoldsJust rows wires (reads_of sheet)
   pub room : 64 ≤ length rows
 
-pub passes : (s : List ℕ) {places firsts rows cells : List ℕ} (i w o k : ℕ) → check_of s ≡ Passed i w o k
-    → ((sheet : Sheet) (n k : ℕ) (v : SheetRead s sheet n k) → Mapped (wires_of v) places firsts rows cells) → Passes s rows w
-passes s {rows = rows} i w o k e map =
-    let p = check_passed s i w o k e in
+pub passes : (s : List ℕ) {places firsts rows cells : List ℕ} (counts : Counts) → check_of s ≡ Ok counts
+    → ((sheet : Sheet) (n k : ℕ) (v : SheetRead s sheet n k) → Mapped (wires_of v) places firsts rows cells) → Passes s rows counts.wires
+passes s {rows = rows} counts e map =
+    let p = check_passed s counts e in
     let passed = passed_check s p.outcome in
     let v = p.view in
-    let counted : wire_count p.sheet ≡ w = sym passed.same_length ∙ p.wires-are in
-    let sized : length (before s v.wires_end v.wire_count) ≡ w =
+    let counted : wire_count p.sheet ≡ counts.wires = sym passed.same_length ∙ p.wires-are in
+    let sized : length (before s v.wires_end v.wire_count) ≡ counts.wires =
     sym (ap (λ x. length x.wire_types) v.is ∙ length-map (before s v.wires_end v.wire_count) wire_type) ∙ p.wires-are in
     record {
       sheet = p.sheet;
@@ -47,8 +48,8 @@ passes s {rows = rows} i w o k e map =
       counted = counted;
       few = p.few-wires;
       held = λ x l. rw (ap (λ sheet. reads_at sheet.expressions x) v.is, reads-of-tree)
-          ((map p.sheet p.end k v).sites.read x (omega arith));
-      room = (map p.sheet p.end k v).sites.room;
+          ((map p.sheet p.end counts.cells v).sites.read x (omega arith));
+      room = (map p.sheet p.end counts.cells v).sites.room;
     }
 
 module _ (s lent : List ℕ) where

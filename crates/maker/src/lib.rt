@@ -17,7 +17,7 @@ ghost use Rattle.maker.specs.Making.{maker_call};
 ghost use Rattle.maker.specs.Placing.{Makes};
 ghost use Rattle.maker.specs.declared.Made.TheVariants.{Refused, Done};
 
-use sheet::{Checked, Refusal};
+use sheet::Refusal;
 
 // What the maker answers: a refusal, or the greatest depth of the sheet's wires.
 #[derive(Clone, Copy)]
@@ -37,13 +37,11 @@ pub fn make(sheet: &[u8], list: &mut [u8]) -> Made
     let mut reads = [0u64; 64];
     let mut cells = [0u16; 64];
     match sheet_check::check_map(sheet, &mut places, &mut firsts, &mut reads, &mut cells) {
-        Checked::Refused { why, place } => Made::Refused { why, place },
-        Checked::Passed {
-            inputs: _,
-            wires,
-            outputs: _,
-            cells: _,
-        } => make_list(&mut reads, wires, list),
+        Err(refused) => Made::Refused {
+            why: refused.why,
+            place: refused.place,
+        },
+        Ok(counts) => make_list(&mut reads, counts.wires, list),
     }
 }
 

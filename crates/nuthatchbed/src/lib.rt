@@ -8,7 +8,6 @@ ghost use Rattle.sheet.specs.Memory.{start_call, packed_started};
 ghost use Rattle.kernel.specs.Calls.{rounds_call, scheduled_call, packed_rounds, packed_scheduled};
 
 use kernel::Scheduled;
-use sheet::{Checked, Started};
 
 // The check: the cells, or a refusal.
 #[unsafe(no_mangle)]
@@ -16,13 +15,8 @@ pub extern "C" fn nuthatchbed_check(sheet: &[u8]) -> u32
     ensures { result ≡ packed_checked (check_of sheet.now) }
 {
     match sheet_check::check(sheet) {
-        Checked::Refused { why, place } => why.at(place).packed(),
-        Checked::Passed {
-            inputs: _,
-            wires: _,
-            outputs: _,
-            cells,
-        } => cells as u32,
+        Err(refused) => refused.packed(),
+        Ok(counts) => counts.cells as u32,
     }
 }
 
@@ -33,8 +27,8 @@ pub extern "C" fn nuthatchbed_start(sheet: &[u8], memory: &mut [u8]) -> u32
     ensures memory_after { memory.new ≡ (start_call sheet.now memory.old).memory }
 {
     match sheet_start::start(sheet, memory) {
-        Started::Refused { why, place } => why.at(place).packed(),
-        Started::Done => 0,
+        Err(not_started) => not_started.packed(),
+        Ok(()) => 0,
     }
 }
 

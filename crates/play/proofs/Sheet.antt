@@ -13,8 +13,6 @@ use Rattle.sheet.specs.Outcomes.{result}
 use Rattle.sheet.specs.Sheets.{Sheet, sheet_forms, sheet_of, check_of}
 use Rattle.sheet.specs.Memory.{memory_bytes, start_memory, start_outcome, start_call}
 use Rattle.sheet.proofs.Laws.Checked.{check_passed}
-use Rattle.sheet.specs.declared.Checked.{Checked}
-use Rattle.sheet.specs.declared.Checked.TheVariants.{Passed}
 use Rattle.lines.specs.Buffers.{Holds}
 use Rattle.lines.specs.Lines.{short_line, sheet_line}
 use Rattle.play.specs.Text.{length_at, sheet_in, rows_in, zeros, instants_due, is_complete, checked_text, bytes_text}
@@ -23,6 +21,10 @@ use Rattle.play.specs.declared.Progress.{Progress}
 use Rattle.play.specs.declared.Stage.TheVariants.{Playing}
 use Rattle.play.specs.declared.Next.TheVariants.{Line}
 use Rattle.play.proofs.Giving.{gives, front}
+use Rattle.sheet.specs.declared.Counts.{Counts}
+use Rattle.sheet.specs.declared.Refused.{Refused}
+use Rattle.std.specs.Prelude.{Ok}
+use Rattle.std.specs.Prelude.{Result}
 
 module _ (bytes : List ℕ) where
   pub short-text : is_complete bytes ≡ false → bytes_text bytes ≡ short_line ∷ []
@@ -45,14 +47,14 @@ module _ (bytes : List ℕ) where
   own-sheet {n} is = let e : 2 + n - 2 ≡ length_at bytes = omega arith in ap (λ k. take k (drop 2 bytes)) e
 
   -- and what the check answers for them
-  pub own-answer : {n : ℕ} {answer : Checked} → n ≡ length_at bytes → answer ≡ check_of (take (2 + n - 2) (drop 2 bytes))
+  pub own-answer : {n : ℕ} {answer : Result Counts Refused} → n ≡ length_at bytes → answer ≡ check_of (take (2 + n - 2) (drop 2 bytes))
       → answer ≡ check_of (sheet_in bytes)
   own-answer is e = e ∙ ap check_of (own-sheet is)
 
   -- that is, that it passes them
-  pub own-passed : {n i w o k : ℕ} {answer : Checked} → n ≡ length_at bytes → answer ≡ check_of (take (2 + n - 2) (drop 2 bytes))
-      → answer ≡ Passed i w o k → check_of (sheet_in bytes) ≡ Passed i w o k
-  own-passed is e known = sym (own-answer is e) ∙ known
+  pub own-passed : {n : ℕ} {counts : Counts} → n ≡ length_at bytes → Ok counts ≡ check_of (take (2 + n - 2) (drop 2 bytes))
+      → check_of (sheet_in bytes) ≡ Ok counts
+  own-passed is e = sym (own-answer is e)
 
 -- the counts of a sheet that passes the check are few
 pub record Few (inputs wires outputs cells : ℕ) : Type 0 where
@@ -61,9 +63,9 @@ pub record Few (inputs wires outputs cells : ℕ) : Type 0 where
   pub outputs-few : outputs ≤ 16
   pub cells-few : cells ≤ 64
 
-pub few-counts : (s : List ℕ) {i w o k : ℕ} → check_of s ≡ Passed i w o k → Few i w o k
-few-counts s e =
-    let p = check_passed s _ _ _ _ e in
+pub few-counts : (s : List ℕ) {c : Counts} → check_of s ≡ Ok c → Few c.inputs c.wires c.outputs c.cells
+few-counts s {c} e =
+    let p = check_passed s c e in
     record { inputs-few = p.few-inputs; wires-few = p.few-wires; outputs-few = p.few-outputs; cells-few = p.few-cells }
 
 -- the start fills a memory of its length, whatever that held
@@ -72,10 +74,10 @@ start-filled : (s memory : List ℕ) {sheet : Sheet} → sheet_of s ≡ result s
 unfolding start_call start_outcome
 start-filled s memory e fits = rw (e, eq-eqb _ _ fits)
 
-start-same : (s memory other : List ℕ) {i w o k : ℕ} → check_of s ≡ Passed i w o k → length memory ≡ 5 * k → length other ≡ 5 * k
+start-same : (s memory other : List ℕ) {c : Counts} → check_of s ≡ Ok c → length memory ≡ 5 * c.cells → length other ≡ 5 * c.cells
     → (start_call s memory).memory ≡ (start_call s other).memory
-start-same s memory other e l m =
-    let p = check_passed s _ _ _ _ e in
+start-same s memory other {c} e l m =
+    let p = check_passed s c e in
     start-filled s memory p.outcome (l ∙ ap (λ n. 5 * n) (sym p.cells_are))
     ∙ sym (start-filled s other p.outcome (m ∙ ap (λ n. 5 * n) (sym p.cells_are)))
 
@@ -95,40 +97,40 @@ due-few size bytes few = go (eqb size 0)
     go false = omega (arith, div-le_self bytes size)
 
 -- a sheet that passes the check: its counts, and then the instants from the starting memory
-module _ (bytes : List ℕ) {i w o k n : ℕ} (passed : check_of (sheet_in bytes) ≡ Passed i w o k) (is : n ≡ length_at bytes) where
+module _ (bytes : List ℕ) {c : Counts} {n : ℕ} (passed : check_of (sheet_in bytes) ≡ Ok c) (is : n ≡ length_at bytes) where
   first-ready : 2 + length_at bytes ≤ length bytes → length bytes ≤ 65536 → {progress : Progress}
-      → progress ≡ first_instant i o k (2 + n) (length bytes - (2 + n)) → Ready bytes progress
+      → progress ≡ first_instant c.inputs c.outputs c.cells (2 + n) (length bytes - (2 + n)) → Ready bytes progress
   first-ready whole few e =
       let counts = few-counts (sheet_in bytes) passed in
-      let rows = due-rows (4 * i) (length bytes - (2 + n)) in
+      let rows = due-rows (4 * c.inputs) (length bytes - (2 + n)) in
       rw e (record {
         sheet = whole;
         rows = omega arith;
-        turns = omega (arith, due-few (4 * i) (length bytes - (2 + n)) (omega arith));
+        turns = omega (arith, due-few (4 * c.inputs) (length bytes - (2 + n)) (omega arith));
         memory = omega (arith, counts.cells-few);
         output = omega (arith, counts.outputs-few);
       })
 
-  first-text : {progress : Progress} (memory : List ℕ) → progress ≡ first_instant i o k (2 + n) (length bytes - (2 + n))
-      → take (5 * k) memory ≡ (start_call (sheet_in bytes) (zeros (5 * k))).memory
-      → checked_text (check_of (sheet_in bytes)) (sheet_in bytes) (rows_in bytes) ≡ sheet_line i w o k ∷ lines_left bytes (Playing progress) memory
+  first-text : {progress : Progress} (memory : List ℕ) → progress ≡ first_instant c.inputs c.outputs c.cells (2 + n) (length bytes - (2 + n))
+      → take (5 * c.cells) memory ≡ (start_call (sheet_in bytes) (zeros (5 * c.cells))).memory
+      → checked_text (check_of (sheet_in bytes)) (sheet_in bytes) (rows_in bytes) ≡ sheet_line c.inputs c.wires c.outputs c.cells ∷ lines_left bytes (Playing progress) memory
   first-text memory e started =
       let rest : length (rows_in bytes) ≡ length bytes - (2 + n) = simp length-drop (omega arith) in
       rw (passed, e, started, rest, is)
 
   -- the start wrote the first bytes of the memory
   pub passed-line : {progress : Progress} {before text : List ℕ} (started memory : List ℕ) {size : ℕ} → 2 + length_at bytes ≤ length bytes
-      → length bytes ≤ 65536 → 320 ≤ length memory → progress ≡ first_instant i o k (2 + n) (length bytes - (2 + n))
-      → length started ≡ length (take (5 * k) memory)
-      → started ≡ (start_call (take (2 + n - 2) (drop 2 bytes)) (take (5 * k) memory)).memory
-      → Holds before (sheet_line i w o k) text size
+      → length bytes ≤ 65536 → 320 ≤ length memory → progress ≡ first_instant c.inputs c.outputs c.cells (2 + n) (length bytes - (2 + n))
+      → length started ≡ length (take (5 * c.cells) memory)
+      → started ≡ (start_call (take (2 + n - 2) (drop 2 bytes)) (take (5 * c.cells) memory)).memory
+      → Holds before (sheet_line c.inputs c.wires c.outputs c.cells) text size
       → Gives bytes (checked_text (check_of (sheet_in bytes)) (sheet_in bytes) (rows_in bytes)) before (Line size (Playing progress)) text
-      (started ++ drop (5 * k) memory)
+      (started ++ drop (5 * c.cells) memory)
   passed-line started memory whole few room e kept stores put =
-      let fits : 5 * k ≤ length memory = omega (arith, (few-counts (sheet_in bytes) passed).cells-few) in
-      let same = start-same (sheet_in bytes) (take (5 * k) memory) (zeros (5 * k)) passed (length-take-le (5 * k) memory fits)
-      (length-replicate (5 * k) 0) in
+      let fits : 5 * c.cells ≤ length memory = omega (arith, (few-counts (sheet_in bytes) passed).cells-few) in
+      let same = start-same (sheet_in bytes) (take (5 * c.cells) memory) (zeros (5 * c.cells)) passed (length-take-le (5 * c.cells) memory fits)
+      (length-replicate (5 * c.cells) 0) in
       gives put (first-ready whole few e)
-      (first-text (started ++ drop (5 * k) memory) e
-      (front (5 * k) memory started kept fits ∙ stores
-      ∙ ap (λ s. (start_call s (take (5 * k) memory)).memory) (own-sheet bytes is) ∙ same))
+      (first-text (started ++ drop (5 * c.cells) memory) e
+      (front (5 * c.cells) memory started kept fits ∙ stores
+      ∙ ap (λ s. (start_call s (take (5 * c.cells) memory)).memory) (own-sheet bytes is) ∙ same))

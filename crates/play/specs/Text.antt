@@ -4,13 +4,15 @@ use Rattle.std.specs.Prelude.{ℕ, zero, suc, ◌+◌, ◌*◌, ◌/◌, Bool, c
 use Rattle.sheet.specs.Outcomes.{number_of}
 use Rattle.sheet.specs.Sheets.{check_of}
 use Rattle.sheet.specs.Memory.{start_call}
-use Rattle.sheet.specs.declared.Checked.{Checked}
-use Rattle.sheet.specs.declared.Checked.TheVariants.{Refused, Passed}
 use Rattle.kernel.specs.Calls.{InstantCall, rounds_call}
 use Rattle.kernel.specs.declared.InRounds.{InRounds}
 use Rattle.kernel.specs.declared.InRounds.TheVariants.{Refused as RefusedInRounds, Accepted}
 use Rattle.text.specs.Pieces.{numbers_of}
 use Rattle.lines.specs.Lines.{short_line, refused_line, sheet_line, left_line, row_line}
+use Rattle.sheet.specs.declared.Counts.{Counts}
+use Rattle.sheet.specs.declared.Refused.{Refused}
+use Rattle.std.specs.Prelude.{Ok, Err}
+use Rattle.std.specs.Prelude.{Result}
 
 -- the first 65,536 bytes of the input; those behind them do not exist
 unfoldable pub played : List ℕ → List ℕ
@@ -53,12 +55,12 @@ module _ (s : List ℕ) (inputSize output_size : ℕ) where
       (instants_text due (turn + 1) call.memory (drop inputSize rows))
 
 -- a refused sheet is one line; else its four counts, and the instants from the starting memory
-abbrev pub checked_text : Checked → (s rows : List ℕ) → List (List ℕ)
-checked_text (Refused why place) s rows = refused_line (number_of why) place ∷ []
-checked_text (Passed inputs wires outputs cells) s rows =
-    sheet_line inputs wires outputs cells
-    ∷ instants_text s (4 * inputs) (4 * outputs) (instants_due (4 * inputs) (length rows)) 0
-    (start_call s (zeros (5 * cells))).memory rows
+abbrev pub checked_text : Result Counts Refused → (s rows : List ℕ) → List (List ℕ)
+checked_text (Err r) s rows = refused_line (number_of r.why) r.place ∷ []
+checked_text (Ok counts) s rows =
+    sheet_line counts.inputs counts.wires counts.outputs counts.cells
+    ∷ instants_text s (4 * counts.inputs) (4 * counts.outputs) (instants_due (4 * counts.inputs) (length rows)) 0
+    (start_call s (zeros (5 * counts.cells))).memory rows
 
 -- whether the two length bytes and the sheet are complete
 abbrev pub is_complete : List ℕ → Bool

@@ -11,7 +11,7 @@ ghost use Rattle.play.specs.Text.{played, length_at, sheet_in, rows_in, instants
 ghost use Rattle.play.specs.Stages.{first_instant, next_instant, lines_left, Ready, Between, Gives, Room};
 
 use kernel::InRounds;
-use sheet::{Checked, Refusal};
+use sheet::Refusal;
 
 // Where the player stands between two lines.
 #[derive(Clone, Copy)]
@@ -115,23 +115,24 @@ fn sheet_line(bytes: &[u8], memory: &mut [u8], text: &mut [u8]) -> Next
     let at = 2 + sheet_length(bytes);
     let sheet = &bytes[2..at];
     match sheet_check::check(sheet) {
-        Checked::Refused { why, place } => final_line(refused_line(text, why, place)),
-        Checked::Passed {
-            inputs,
-            wires,
-            outputs,
-            cells,
-        } => {
-            let cells_size = 5 * cells;
-            sheet_start::start(sheet, &mut memory[..cells_size]);
+        Err(refused) => final_line(refused_line(text, refused.why, refused.place)),
+        Ok(counts) => {
+            let cells_size = 5 * counts.cells;
+            let _ = sheet_start::start(sheet, &mut memory[..cells_size]);
             let size = lines::sheet_line(
                 text,
-                inputs as u32,
-                wires as u32,
-                outputs as u32,
-                cells as u32,
+                counts.inputs as u32,
+                counts.wires as u32,
+                counts.outputs as u32,
+                counts.cells as u32,
             );
-            let progress = first_instant(inputs, outputs, cells, at, bytes.len() - at);
+            let progress = first_instant(
+                counts.inputs,
+                counts.outputs,
+                counts.cells,
+                at,
+                bytes.len() - at,
+            );
             Next::Line {
                 size,
                 stage: Stage::Playing(progress),

@@ -4,14 +4,14 @@ use Rattle.numbers.specs.Words.{word_at, word_bytes}
 use Rattle.sheet.specs.Data.{ValueType, boolean, number, type_of_byte, stands_for, datum_of, word_of}
 use Rattle.sheet.specs.Kinds.{Owned, no_cell, pre-cell, fby-cell, state-cell, owned_of, own_type_of}
 use Rattle.sheet.specs.Expressions.{CellForm, fby_cell}
-use Rattle.sheet.specs.Outcomes.{Outcome, refusal, result, followed_by, holds_after, unless_length, unless_any, packed_refusal}
+use Rattle.sheet.specs.Outcomes.{Outcome, result, followed_by, holds_after, unless_length, unless_any, done_of, packed_answer}
 use Rattle.sheet.specs.Sheets.{sheet_forms, sheet_of}
 use Rattle.sheet.specs.declared.Datum.TheVariants.{Boolean}
 use Rattle.sheet.specs.declared.Cell.{Cell}
 use Rattle.sheet.specs.declared.Cell.TheVariants.{NotStarted, Started}
 use Rattle.sheet.specs.declared.Refusal.TheVariants.{MemoryLength, CellContent}
-use Rattle.sheet.specs.declared.Started.{Started as StartAnswer}
-use Rattle.sheet.specs.declared.Started.TheVariants.{Refused, Done}
+use Rattle.sheet.specs.declared.Refused.{Refused}
+use Rattle.std.specs.Prelude.{Result}
 
 -- A cell is 5 bytes: a mark, 0 not started or 1 started, then a value.
 abbrev pub cell_bytes : Cell → List ℕ
@@ -90,20 +90,15 @@ start_outcome s memory =
     unless_length MemoryLength (length memory) (5 * length (sheet_forms sheet))
     (result (memory_bytes (start_memory (sheet_forms sheet)))))
 
-abbrev pub answer_of : Outcome (List ℕ) → StartAnswer
-answer_of (refusal why place) = Refused why place
-answer_of (result bytes) = Done
-
 -- what the call of the start leaves
 pub record StartCall : Type 0 where
-  pub answer : StartAnswer
+  pub answer : Result (Unit {0}) Refused
   pub memory : List ℕ
 
 unfoldable pub start_call : (s memory : List ℕ) → StartCall
 start_call s memory =
-    record { answer = answer_of (start_outcome s memory); memory = holds_after (start_outcome s memory) (λ bytes. bytes) memory }
+    record { answer = done_of (start_outcome s memory); memory = holds_after (start_outcome s memory) (λ bytes. bytes) memory }
 
 -- the number that the C library returns
-abbrev pub packed_started : StartAnswer → ℕ
-packed_started (Refused why place) = packed_refusal why place
-packed_started Done = 0
+abbrev pub packed_started : Result (Unit {0}) Refused → ℕ
+packed_started = packed_answer (λ done. 0)

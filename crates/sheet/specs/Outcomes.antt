@@ -49,6 +49,16 @@ abbrev pub answer_of : {A : Type 0} → Outcome A → Result A Refused
 answer_of (refusal why place) = refused_at why place
 answer_of (result a) = Ok a
 
+-- what a call answers of an outcome whose result it gives nothing of
+abbrev pub done_of : {A : Type 0} → Outcome A → Result (Unit {0}) Refused
+done_of (refusal why place) = refused_at why place
+done_of (result a) = Ok tt
+
+-- an answer as one number, as the C library returns it: a refusal's, or the number of what the call gives
+abbrev pub packed_answer : {A : Type 0} → (A → ℕ) → Result A Refused → ℕ
+packed_answer number (Err r) = packed_refusal r.why r.place
+packed_answer number (Ok a) = number a
+
 -- a refusal ends the call
 abbrev pub followed_by : {A B : Type 0} → Outcome A → (A → Outcome B) → Outcome B
 followed_by (refusal why place) f = refusal why place

@@ -6,26 +6,36 @@ use Rattle.sheet.specs.Expressions.{Expression}
 use Rattle.sheet.specs.Kinds.{body_of, cells_of, operands_of, limit_of, names_unkept, found_of, meaning_of, kind_count}
 use Rattle.sheet.specs.declared.Refusal.{Refusal}
 use Rattle.sheet.specs.declared.Refusal.TheVariants.{Cut, Kind, Body, Level, TypeAsked, CellLimit}
-use Rattle.sheet.specs.declared.Read.{Read}
-use Rattle.sheet.specs.declared.Read.TheVariants.{Refused, Got}
+use Rattle.sheet.specs.Outcomes.{refused_at}
+use Rattle.sheet.specs.declared.Got.{Got}
+use Rattle.sheet.specs.declared.Refused.{Refused}
+use Rattle.std.specs.Prelude.{Result, Ok, Err}
 
 pub data Reading (A : Type 0) : Type 0 where
   refused : Refusal → (place : ℕ) → Reading A
   got : A → (next count : ℕ) → Reading A
 
--- a reading without what it built: what the code answers
-abbrev pub erased : {A : Type 0} → Reading A → Read
-erased (refused why place) = Refused why place
-erased (got a n k) = Got n k
+-- what the code answers where it got something
+abbrev pub got_at : (next count : ℕ) → Result Got Refused
+got_at n k = Ok (record { next = n; count = k })
+
+-- what the code answers of a reading, by what it keeps of what is got
+abbrev pub reading_answer : {A B : Type 0} → (A → (next count : ℕ) → B) → Reading A → Result B Refused
+reading_answer keep (refused why place) = refused_at why place
+reading_answer keep (got a n k) = Ok (keep a n k)
+
+-- a reading without what it built
+abbrev pub erased : {A : Type 0} → Reading A → Result Got Refused
+erased = reading_answer (λ a n k. record { next = n; count = k })
 
 -- a reading that is refused ends there
 abbrev pub and_then : {A B : Type 0} → Reading A → (A → ℕ → ℕ → Reading B) → Reading B
 and_then (refused why place) f = refused why place
 and_then (got a n k) f = f a n k
 
-abbrev pub on_read : {A : Type 0} → Read → (Refusal → ℕ → A) → (ℕ → ℕ → A) → A
-on_read (Refused why place) f g = f why place
-on_read (Got n k) f g = g n k
+abbrev pub on_read : {A : Type 0} → Result Got Refused → (Refusal → ℕ → A) → (ℕ → ℕ → A) → A
+on_read (Err r) f g = f r.why r.place
+on_read (Ok a) f g = g a.next a.count
 
 -- one expression for each of the types asked, in order
 unfoldable pub read_each : (ℕ → ℕ → ℕ → Reading Expression) → List ℕ → ℕ → ℕ → Reading (List Expression)
@@ -47,25 +57,25 @@ body_at s at = cond (eqb (body_of (get_or s at 0)) 4) (word_at s (at + 1)) (name
 
 module _ (inputs wires s : List ℕ) where
   -- 7 and 9, the last of an expression's own tests: what its body names, and its type. Behind them are n and k.
-  unfoldable pub names_of : (t at n k : ℕ) → Read
+  unfoldable pub names_of : (t at n k : ℕ) → Result Got Refused
   names_of t at n k =
-      cond (leb (limit_of inputs wires (get_or s at 0)) (named_at s at)) (Refused Body at)
-      (cond (names_unkept wires (get_or s at 0) (named_at s at)) (Refused Body at)
-      (cond (eqb (found_of inputs wires t (get_or s at 0) (named_at s at)) t) (Got n k) (Refused TypeAsked at)))
+      cond (leb (limit_of inputs wires (get_or s at 0)) (named_at s at)) (refused_at Body at)
+      (cond (names_unkept wires (get_or s at 0) (named_at s at)) (refused_at Body at)
+      (cond (eqb (found_of inputs wires t (get_or s at 0) (named_at s at)) t) (got_at n k) (refused_at TypeAsked at)))
 
   -- 10 and 2: where c cells stand before it, a cell is left for it, and its body is whole
-  unfoldable pub body_from : (t at c : ℕ) → Read
+  unfoldable pub body_from : (t at c : ℕ) → Result Got Refused
   body_from t at c =
-      cond (ltb 64 (c + cells_of (get_or s at 0))) (Refused CellLimit at)
-      (cond (ltb (length s) (at + 1 + body_of (get_or s at 0))) (Refused Cut (length s))
+      cond (ltb 64 (c + cells_of (get_or s at 0))) (refused_at CellLimit at)
+      (cond (ltb (length s) (at + 1 + body_of (get_or s at 0))) (refused_at Cut (length s))
       (names_of t at (at + 1 + body_of (get_or s at 0)) (c + cells_of (get_or s at 0))))
 
   -- an expression's own bytes, with `level` levels left and type t asked: 2, 6, 8 and then the rest
-  unfoldable pub own_of : (level t at c : ℕ) → Read
+  unfoldable pub own_of : (level t at c : ℕ) → Result Got Refused
   own_of level t at c =
-      cond (leb (length s) at) (Refused Cut (length s))
-      (cond (leb kind_count (get_or s at 0)) (Refused Kind at)
-      (cond (eqb level 0) (Refused Level at)
+      cond (leb (length s) at) (refused_at Cut (length s))
+      (cond (leb kind_count (get_or s at 0)) (refused_at Kind at)
+      (cond (eqb level 0) (refused_at Level at)
       (body_from t at c)))
 
   -- an expression: its own bytes, then its operands by `read`

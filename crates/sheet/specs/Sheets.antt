@@ -2,13 +2,14 @@
 use Rattle.std.specs.Prelude.{ℕ, ◌+◌, ◌-◌, cond, true, false, List, [], ◌∷◌, ◌++◌, map, length, get_or, take, drop, ltb, eqb}
 use Rattle.sheet.specs.Data.{ValueType, type_of_byte, plain_byte, is_kept, wire_type}
 use Rattle.sheet.specs.Expressions.{Expression, constant, kept, CellForm, cell_forms}
-use Rattle.sheet.specs.Outcomes.{Outcome, refusal, result, packed_refusal}
-use Rattle.sheet.specs.Readings.{Reading, refused, got, and_then, on_read, read_each, read_expression}
+use Rattle.sheet.specs.Outcomes.{Outcome, refusal, result, packed_answer}
+use Rattle.sheet.specs.Readings.{Reading, refused, got, reading_answer, and_then, on_read, read_each, read_expression}
 use Rattle.sheet.specs.Headers.{section_of}
 use Rattle.sheet.specs.declared.Datum.TheVariants.{Boolean}
 use Rattle.sheet.specs.declared.Refusal.TheVariants.{SheetLength, TypeByte, OutputWire, LeftOver}
-use Rattle.sheet.specs.declared.Checked.{Checked}
-use Rattle.sheet.specs.declared.Checked.TheVariants.{Refused, Passed}
+use Rattle.sheet.specs.declared.Counts.{Counts}
+use Rattle.sheet.specs.declared.Refused.{Refused}
+use Rattle.std.specs.Prelude.{Result}
 
 -- the types of inputs and wires, the wires that are outputs, and an expression for each wire
 pub record Sheet : Type 0 where
@@ -90,15 +91,23 @@ outcome_of (got sheet next count) = result sheet
 unfoldable pub sheet_of : List ℕ → Outcome Sheet
 sheet_of s = outcome_of (read_sheet s)
 
--- the check answers a reading's refusal, or the four counts
-abbrev pub checked_of : Reading Sheet → Checked
-checked_of (refused why place) = Refused why place
-checked_of (got sheet next count) = Passed (length sheet.input_types) (length sheet.wire_types) (length sheet.outputs) count
+-- the four counts of a sheet with so many cells
+abbrev pub counts_with : Sheet → (cells : ℕ) → Counts
+counts_with sheet cells =
+    record {
+      inputs = length sheet.input_types;
+      wires = length sheet.wire_types;
+      outputs = length sheet.outputs;
+      cells = cells;
+    }
 
-abbrev pub check_of : List ℕ → Checked
+-- the check answers a reading's refusal, or the four counts
+abbrev pub checked_of : Reading Sheet → Result Counts Refused
+checked_of = reading_answer (λ sheet next count. counts_with sheet count)
+
+abbrev pub check_of : List ℕ → Result Counts Refused
 check_of s = checked_of (read_sheet s)
 
 -- the number that the C library returns: the cells
-abbrev pub packed_checked : Checked → ℕ
-packed_checked (Refused why place) = packed_refusal why place
-packed_checked (Passed inputs wires outputs cells) = cells
+abbrev pub packed_checked : Result Counts Refused → ℕ
+packed_checked = packed_answer (λ counts. counts.cells)

@@ -66,32 +66,10 @@ pub struct Counts {
     pub cells: usize,
 }
 
-// What reading at a place finds: a refusal, or the place past what was read and a number. The number is a count or a byte of
-// the header, and behind an expression the count of cells so far.
+// What reading at a place gets: the place past what was read and a number. The number is a count or a byte of the header, and behind an
+// expression the count of cells so far.
 #[derive(Clone, Copy)]
-pub enum Read {
-    Refused { why: Refusal, place: usize },
-    Got { next: usize, count: usize },
-}
-
-// What the check of a sheet answers.
-#[derive(Clone, Copy)]
-pub enum Checked {
-    Refused {
-        why: Refusal,
-        place: usize,
-    },
-    Passed {
-        inputs: usize,
-        wires: usize,
-        outputs: usize,
-        cells: usize,
-    },
-}
-
-// What the start of a memory answers.
-#[derive(Clone, Copy)]
-pub enum Started {
-    Refused { why: Refusal, place: usize },
-    Done,
+pub struct Got {
+    pub next: usize,
+    pub count: usize,
 }

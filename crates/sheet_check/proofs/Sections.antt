@@ -1,6 +1,7 @@
 -- The sections of a header, as the code goes past them: the bytes that it lends behind each, and the map of what follows.
 use Prim.Native.Nat.{ℕ, ◌-◌, ◌≤◌, ◌<◌}
-use mathlib.Core.Path.{◌≡◌, refl}
+use mathlib.Core.Path.{◌≡◌, refl, sym, ◌∙◌}
+use Rattle.sheet.specs.Laws.Readings.{got-next, got-count}
 use mathlib.Core.Bool.{Bool, true, false}
 use mathlib.Core.List.{List}
 use native.Mathlib.Omega.{arith}
@@ -11,8 +12,8 @@ use Rattle.sheet.specs.Headers.{section_of}
 use Rattle.sheet.specs.Sheets.{Sheet, before}
 use Rattle.sheet.specs.Laws.Headers.{SectionGood, section-length, section-byte, SheetRead}
 use Rattle.sheet.specs.declared.Refusal.TheVariants.{TypeByte, OutputWire}
-use Rattle.sheet.specs.declared.Read.TheVariants.{Got}
 use Rattle.sheet_expressions.specs.Map.{TypeBytes, Mapped, Drawn, wires_of, WhereGot}
+use Rattle.sheet.specs.Readings.{got_at}
 
 -- the k bytes up to n, which the code lends by their two ends
 pub span : {s : List ℕ} {at fewest excess limit n k : ℕ} → SectionGood s at fewest excess limit n k → n - (n - k) ≡ k
@@ -31,11 +32,11 @@ section-types {s} {limit = limit} {n = n} {k = k} most some g =
 
 -- the map of a sheet that reads, section by section
 pub sheet_mapped : {s : List ℕ} {sheet : Sheet} {n k : ℕ} (v : SheetRead s sheet n k) {next count : ℕ} {places firsts reads cells : List ℕ}
-    → section_of s 0 0 17 2 false TypeByte ≡ Got next count
+    → section_of s 0 0 17 2 false TypeByte ≡ got_at next count
     → WhereGot (section_of s next 1 65 4 false TypeByte)
     (λ m j. WhereGot (section_of s m 1 17 (length (before s m j)) true OutputWire) (λ o i.
     Drawn (before s next count) (before s m j) s o places firsts reads cells)) → Mapped (wires_of v) places firsts reads cells
 sheet_mapped {s} {sheet} {n} {k} v {next} {count} e h =
-    let next-is : next ≡ v.inputs_end = cc (e, v.inputs) in
-    let count-is : count ≡ v.input_count = cc (e, v.inputs) in
+    let next-is : next ≡ v.inputs_end = got-next (sym v.inputs ∙ e) in
+    let count-is : count ≡ v.input_count = got-count (sym v.inputs ∙ e) in
     (rw v.outputs at (rw v.wires at (rw (next-is, count-is) at h))).maps v.expressions n k v.each

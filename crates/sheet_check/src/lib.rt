@@ -9,10 +9,10 @@ ghost use Rattle.sheet.specs.Laws.Headers.{SheetRead};
 ghost use Rattle.sheet.specs.declared.Refusal.TheVariants.{TypeByte, OutputWire};
 ghost use Rattle.sheet_expressions.specs.Map.{TypeBytes, Tables, Drawn, Mapped, wires_of, WhereGot};
 
-use sheet::{Checked, Read, Refusal};
+use sheet::{Counts, Refusal, Refused};
 
 // The check of any bytes: the four counts of a sheet, or the first refusal with its place.
-pub fn check(sheet: &[u8]) -> Checked
+pub fn check(sheet: &[u8]) -> Result<Counts, Refused>
     ensures { result ≡ check_of sheet.now }
 {
     let mut places = [0u16; 64];
@@ -29,36 +29,28 @@ pub fn check_map(
     firsts: &mut [u8; 64],
     reads: &mut [u64; 64],
     cells: &mut [u16; 64],
-) -> Checked
+) -> Result<Counts, Refused>
     requires { Tables places.old firsts.old reads.old cells.old }
     ensures value { result ≡ check_of sheet.now }
     ensures mapped { (s : Sheet) (n k : ℕ) (v : SheetRead sheet.now s n k)
         → Mapped (wires_of v) places.new firsts.new reads.new cells.new }
 {
     if sheet.len() == 0 {
-        return Checked::Refused {
-            why: Refusal::SheetLength,
-            place: 0,
-        };
+        return Err(Refusal::SheetLength.at(0));
     }
     if 4096 < sheet.len() {
-        return Checked::Refused {
-            why: Refusal::SheetLength,
-            place: 0,
-        };
+        return Err(Refusal::SheetLength.at(0));
     }
-    match sheet_header::section(sheet, 0, 0, 17, 2, false, Refusal::TypeByte) {
-        Read::Refused { why, place } => Checked::Refused { why, place },
-        Read::Got { next, count } => wires_from(
-            sheet,
-            &sheet[next - count..next],
-            next,
-            places,
-            firsts,
-            reads,
-            cells,
-        ),
-    }
+    let found = sheet_header::section(sheet, 0, 0, 17, 2, false, Refusal::TypeByte)?;
+    wires_from(
+        sheet,
+        &sheet[found.next - found.count..found.next],
+        found.next,
+        places,
+        firsts,
+        reads,
+        cells,
+    )
 }
 
 // The rest of a sheet from `at` on: the wires, each with its type, kept or not.
@@ -70,7 +62,7 @@ fn wires_from(
     firsts: &mut [u8; 64],
     reads: &mut [u64; 64],
     cells: &mut [u16; 64],
-) -> Checked
+) -> Result<Counts, Refused>
     requires { TypeBytes 2 inputs.now × (length sheet.now ≤ 4096)
         × Tables places.old firsts.old reads.old cells.old }
     ensures value { result ≡ checked_of (wires_from sheet.now inputs.now at) }
@@ -79,19 +71,17 @@ fn wires_from(
         Drawn inputs.now (before sheet.now n k) sheet.now m
         places.new firsts.new reads.new cells.new)) }
 {
-    match sheet_header::section(sheet, at, 1, 65, 4, false, Refusal::TypeByte) {
-        Read::Refused { why, place } => Checked::Refused { why, place },
-        Read::Got { next, count } => outputs_from(
-            sheet,
-            inputs,
-            &sheet[next - count..next],
-            next,
-            places,
-            firsts,
-            reads,
-            cells,
-        ),
-    }
+    let found = sheet_header::section(sheet, at, 1, 65, 4, false, Refusal::TypeByte)?;
+    outputs_from(
+        sheet,
+        inputs,
+        &sheet[found.next - found.count..found.next],
+        found.next,
+        places,
+        firsts,
+        reads,
+        cells,
+    )
 }
 
 // The rest from the outputs on, each of them a wire and above the one before.
@@ -104,7 +94,7 @@ fn outputs_from(
     firsts: &mut [u8; 64],
     reads: &mut [u64; 64],
     cells: &mut [u16; 64],
-) -> Checked
+) -> Result<Counts, Refused>
     requires { TypeBytes 2 inputs.now × TypeBytes 4 wires.now × (length sheet.now ≤ 4096)
         × Tables places.old firsts.old reads.old cells.old }
     ensures value { result ≡ checked_of (outputs_from sheet.now inputs.now wires.now at) }
@@ -112,20 +102,18 @@ fn outputs_from(
         Drawn inputs.now wires.now sheet.now n
         places.new firsts.new reads.new cells.new) }
 {
-    match sheet_header::section(sheet, at, 1, 17, wires.len(), true, Refusal::OutputWire) {
-        Read::Refused { why, place } => Checked::Refused { why, place },
-        Read::Got { next, count } => expressions_from(
-            sheet,
-            inputs,
-            wires,
-            &sheet[next - count..next],
-            next,
-            places,
-            firsts,
-            reads,
-            cells,
-        ),
-    }
+    let found = sheet_header::section(sheet, at, 1, 17, wires.len(), true, Refusal::OutputWire)?;
+    expressions_from(
+        sheet,
+        inputs,
+        wires,
+        &sheet[found.next - found.count..found.next],
+        found.next,
+        places,
+        firsts,
+        reads,
+        cells,
+    )
 }
 
 // The rest from the expressions on, one for each wire, and nothing behind them.
@@ -139,7 +127,7 @@ fn expressions_from(
     firsts: &mut [u8; 64],
     reads: &mut [u64; 64],
     cells: &mut [u16; 64],
-) -> Checked
+) -> Result<Counts, Refused>
     requires { TypeBytes 2 inputs.now × TypeBytes 4 wires.now × (length sheet.now ≤ 4096) × (at ≤ length sheet.now)
         × Tables places.old firsts.old reads.old cells.old }
     ensures value { result ≡ checked_of (expressions_from sheet.now inputs.now wires.now
@@ -148,23 +136,16 @@ fn expressions_from(
         places.new firsts.new reads.new cells.new }
 {
     let mut names = sheet_names::names_of(inputs, wires);
-    match sheet_expressions::check_wires(
+    let found = sheet_expressions::check_wires(
         &sheet, &mut names, wires, at, places, firsts, reads, cells,
-    ) {
-        Read::Refused { why, place } => Checked::Refused { why, place },
-        Read::Got { next, count } => {
-            if next < sheet.len() {
-                return Checked::Refused {
-                    why: Refusal::LeftOver,
-                    place: next,
-                };
-            }
-            Checked::Passed {
-                inputs: inputs.len(),
-                wires: wires.len(),
-                outputs: outputs.len(),
-                cells: count,
-            }
-        }
+    )?;
+    if found.next < sheet.len() {
+        return Err(Refusal::LeftOver.at(found.next));
     }
+    Ok(Counts {
+        inputs: inputs.len(),
+        wires: wires.len(),
+        outputs: outputs.len(),
+        cells: found.count,
+    })
 }

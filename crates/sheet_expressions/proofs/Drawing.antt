@@ -16,17 +16,20 @@ use Rattle.sheet.specs.Lists.{among}
 use Rattle.sheet.specs.Reads.{wires_read}
 use Rattle.sheet.specs.Readings.{erased, read_expression}
 use Rattle.sheet.specs.Sheets.{forms_of, expression_at, cells_before, wire_tree, own_cells, kept_count, read_wires}
-use Rattle.sheet.specs.Laws.Readings.{not_good}
+use Rattle.sheet.specs.Laws.Readings.{not_good, got-next, got-count}
 use Rattle.sheet.proofs.Laws.Wires.{kept-few, all-extent}
 use Rattle.sheet.specs.declared.Datum.TheVariants.{Boolean}
-use Rattle.sheet.specs.declared.Read.{Read}
 use Rattle.sheet.specs.declared.Refusal.{Refusal}
-use Rattle.sheet.specs.declared.Read.TheVariants.{Refused, Got}
 use Rattle.sheet_names.proofs.Numbers.{kept_from}
 use Rattle.sheet_own.specs.Own.{Joins}
 use Rattle.sheet_expressions.specs.Map.{WiresRead, StartsAt, Entered, kept_forms, HoldsJust, EachHoldsJust, Checks, Mapped, Drawn}
 use Rattle.sheet_expressions.proofs.Noting.{entered-none, entered-append, pairs-length}
 use Rattle.sheet_expressions.proofs.Locating.{Left, all_left, each-tree, turn}
+use Rattle.sheet.specs.Outcomes.{refused_at}
+use Rattle.sheet.specs.Readings.{got_at}
+use Rattle.sheet.specs.declared.Got.{Got}
+use Rattle.sheet.specs.declared.Refused.{Refused}
+use Rattle.std.specs.Prelude.{Result, Err}
 
 -- what is joined to the empty set is held alone
 joined-alone : {none : ℕ} (ws : List ℕ) {bits : ℕ} → ((k : ℕ) → member none k ≡ false) → Joins none ws bits → HoldsJust bits ws
@@ -84,12 +87,12 @@ module _ {s : List ℕ} {wires at : ℕ} (run : WiresRead s wires at) where
       record { left = all_left run e; place = λ v l. absurd (omega arith); read = λ v l. absurd (omega arith); noted = entered-none }
 
   -- one wire more: its own cell, if it is kept, and then its expression
-  pub wire-drawn : {w next count ahead later n k none bits : ℕ} {answer : Read} {places firsts reads before cells between after : List ℕ}
+  pub wire-drawn : {w next count ahead later n k none bits : ℕ} {answer : Result Got Refused} {places firsts reads before cells between after : List ℕ}
       → w < wires → w < length places → w < length firsts → w < length reads
       → ahead ≡ kept_count (drop w run.types) → later ≡ kept_count (drop (w + 1) run.types)
       → Drawing w next count places firsts reads before cells
       → Entered s (kept_forms (get_or run.types w 0)) (count - ahead) cells between
-      → answer ≡ Got n k → ((j : ℕ) → member none j ≡ false)
+      → answer ≡ got_at n k → ((j : ℕ) → member none j ≡ false)
       → Checks s cell_forms wires_read (read_expression run.inputs run.types s 16 (plain_byte (get_or run.types w 0)) next count)
       (count - later) answer between after none bits
       → Drawing (w + 1) n k (set places w next) (set firsts w (count - later)) (set reads w bits) before after
@@ -98,8 +101,8 @@ module _ {s : List ℕ} {wires at : ℕ} (run : WiresRead s wires at) where
       let b = get_or run.types w 0 in
       let here = turn run d.left more in
       let same = sym e ∙ h.answers ∙ ap erased here.reads in
-      let next-is : here.end ≡ n = cc in
-      let count-is : here.behind ≡ k = cc in
+      let next-is : here.end ≡ n = got-next same in
+      let count-is : here.behind ≡ k = got-count same in
       let grown = each-tree run more in
       let forms : cell_forms (expression_at run.trees w) ≡ kept_forms b ++ cell_forms here.tree =
       ap cell_forms here.whole ∙ tree_forms b here.tree in
@@ -142,6 +145,6 @@ module _ {s : List ℕ} {wires at : ℕ} (run : WiresRead s wires at) where
       }
 
 -- nothing is said of wires that are refused
-pub run-refused : {inputs types s : List ℕ} {at place : ℕ} {why : Refusal} {places firsts reads cells : List ℕ}
-    → Refused why place ≡ erased (read_wires inputs types s at) → Drawn inputs types s at places firsts reads cells
+pub run-refused : {inputs types s : List ℕ} {at : ℕ} {r : Refused} {places firsts reads cells : List ℕ}
+    → Err r ≡ erased (read_wires inputs types s at) → Drawn inputs types s at places firsts reads cells
 run-refused e = record { maps = λ trees n k each. not_good (e ∙ ap erased each) }

@@ -23,17 +23,20 @@ use Rattle.sheet.specs.Sheets.{forms_of}
 use Rattle.sheet.specs.Memory.{type_byte, form_byte, start_memory, own_cell}
 use Rattle.sheet.specs.Typing.{Pairwise, done, ◌then◌}
 use Rattle.sheet.specs.Laws.Lists.{among-append}
-use Rattle.sheet.specs.Laws.Readings.{not_good, kinds-between, ◌▸◌, end, OwnGood, own_good, ExpressionRead, run-view, expression_view}
+use Rattle.sheet.specs.Laws.Readings.{not_good, got-next, got-count, kinds-between, ◌▸◌, end, OwnGood, own_good, ExpressionRead, run-view, expression_view}
 use Rattle.sheet.specs.Laws.Readings.{own-starts, forms_of-kind, own_forms_length, forms_length, operands-counted}
 use Rattle.sheet.specs.Laws.Readings.{ExpressionExtent, expression_extent, run-extent}
 use Rattle.sheet.proofs.Laws.Reads.{reads-of-kind}
 use Rattle.sheet.specs.declared.Refusal.{Refusal}
-use Rattle.sheet.specs.declared.Read.{Read}
-use Rattle.sheet.specs.declared.Read.TheVariants.{Refused, Got}
 use Rattle.sheet_own.specs.Own.{Joins, LeafChecks, own_entries}
 use Rattle.sheet_own.proofs.Nodes.{leaf-owned}
 use Rattle.sheet_expressions.specs.Map.{no_owner, CellNoted, Entered, kept_forms, Checks}
 use Rattle.sheet_expressions.proofs.Steps.{own-refused, own-passed, by-operands, is-got}
+use Rattle.sheet.specs.Outcomes.{refused_at}
+use Rattle.sheet.specs.Readings.{got_at}
+use Rattle.sheet.specs.declared.Got.{Got}
+use Rattle.sheet.specs.declared.Refused.{Refused}
+use Rattle.std.specs.Prelude.{Result, Ok, Err}
 
 -- an expression without operands and without a cell: a leaf, or what gives the cell of a kept wire
 pub record Bare (k : ℕ) : Type 0 where
@@ -171,20 +174,19 @@ joins-append {n} {m} {o} xs ys p q = record {
 
 -- nothing is said of a reading that is refused
 pub refused_checks : {A : Type 0} {s : List ℕ} {forms : A → List CellForm} {reads : A → List ℕ} {x : Reading A} {c : ℕ}
-    {why : Refusal} {place : ℕ} {first after : List ℕ} {bits joint : ℕ} → Refused why place ≡ erased x
-    → Checks s forms reads x c (Refused why place) first after bits joint
+    {r : Refused} {first after : List ℕ} {bits joint : ℕ} → Err r ≡ erased x → Checks s forms reads x c (Err r) first after bits joint
 refused_checks e =
     record { answers = e; cells = λ a n k q. not_good (e ∙ ap erased q); reads = λ a n k q. not_good (e ∙ ap erased q) }
 
 -- own bytes that are refused
-pub own-stops : (inputs wires s : List ℕ) (level t at c : ℕ) {answer : Read} {why : Refusal} {d place : ℕ} {first after : List ℕ}
-    {bits joint : ℕ} → answer ≡ Refused why place → own_of inputs wires s level t at c ≡ Refused why place
+pub own-stops : (inputs wires s : List ℕ) (level t at c : ℕ) {answer : Result Got Refused} {r : Refused} {d : ℕ} {first after : List ℕ}
+    {bits joint : ℕ} → answer ≡ Err r → own_of inputs wires s level t at c ≡ Err r
     → Checks s cell_forms wires_read (read_expression inputs wires s level t at c) d answer first after bits joint
 own-stops inputs wires s level t at c a e = rw a (refused_checks (own-refused inputs wires s t at c level e))
 
 -- where an expression that was read ends, and the cells that are counted behind it
-pub extent : (inputs wires s : List ℕ) (level t at c : ℕ) {d n k bits joint : ℕ} {answer : Read} {before after : List ℕ}
-    → Checks s cell_forms wires_read (read_expression inputs wires s level t at c) d answer before after bits joint → answer ≡ Got n k
+pub extent : (inputs wires s : List ℕ) (level t at c : ℕ) {d n k bits joint : ℕ} {answer : Result Got Refused} {before after : List ℕ}
+    → Checks s cell_forms wires_read (read_expression inputs wires s level t at c) d answer before after bits joint → answer ≡ got_at n k
     → (e : Expression) × ExpressionExtent s at c e n k
 extent inputs wires s level t at c h e =
     let (tree, read) = is-got (read_expression inputs wires s level t at c) (sym h.answers ∙ e) in
@@ -204,8 +206,8 @@ module _ (inputs wires s : List ℕ) (level ahead : ℕ) where
   read = read_expression inputs wires s level
 
   -- one expression more, whose reads are kept where it is one of those that count
-  pub left_step : (types : List ℕ) (counted i at c : ℕ) {m j n k first start bits joint : ℕ} {answer : Read} {forms : List CellForm}
-      {before between next : List ℕ} {ws : List ℕ} → i < length types → ahead ≤ c → answer ≡ Got m j
+  pub left_step : (types : List ℕ) (counted i at c : ℕ) {m j n k first start bits joint : ℕ} {answer : Result Got Refused} {forms : List CellForm}
+      {before between next : List ℕ} {ws : List ℕ} → i < length types → ahead ≤ c → answer ≡ got_at m j
       → Checks s cell_forms wires_read (read (get_or types i 0) at c) (c - ahead) answer between next bits joint
       → Left s read ahead (drop i types) at c n k forms first before between (counted - i) ws start bits
       → Left s read ahead (drop (i + 1) types) m j n k forms first before next (counted - (i + 1)) ws start
@@ -216,8 +218,8 @@ module _ (inputs wires s : List ℕ) (level ahead : ℕ) where
       let whole : read_each read (t ∷ drop (suc i) types) at c ≡ got left.rest n k = rw (drop-cons types i 0) at left.reads in
       let v = run-view read t (drop (suc i) types) at c whole in
       let same = sym e ∙ h.answers in
-      let at_next : v.next ≡ m = cc (ap erased v.first, same) in
-      let at_count : v.count ≡ j = cc (ap erased v.first, same) in
+      let at_next : v.next ≡ m = got-next (same ∙ ap erased v.first) in
+      let at_count : v.count ≡ j = got-count (same ∙ ap erased v.first) in
       let x = expression_extent inputs wires s level t at c v.first in
       let cells : j - ahead ≡ c - ahead + length (cell_forms v.head) = omega (arith, x.counted, forms_length v.head) in
       let here = h.cells v.head v.next v.count v.first in
@@ -260,8 +262,8 @@ module _ (inputs wires s : List ℕ) (level ahead : ℕ) where
       nothing (suc n) = refl
 
 -- an expression's own cell, then those of its operands; what it reads is what they read
-pub whole_checks : (inputs wires s : List ℕ) (ahead level t at c : ℕ) {n k bits joint : ℕ} {answer : Read} {first next after : List ℕ}
-    → t < 2 → length s ≤ 4096 → ahead ≤ c → 4 ≤ get_or s at 0 → own_of inputs wires s level t at c ≡ Got n k
+pub whole_checks : (inputs wires s : List ℕ) (ahead level t at c : ℕ) {n k bits joint : ℕ} {answer : Result Got Refused} {first next after : List ℕ}
+    → t < 2 → length s ≤ 4096 → ahead ≤ c → 4 ≤ get_or s at 0 → own_of inputs wires s level t at c ≡ got_at n k
     → next ≡ sets first (c - ahead) (own_entries (get_or s at 0) t at)
     → Checks s forms_of (λ es. all_read (take (read_count_of (get_or s at 0)) es))
     (read_each (read_expression inputs wires s (level - 1)) (operands_of (get_or s at 0) t) n k) (k - ahead) answer next after bits
@@ -295,8 +297,8 @@ whole_checks inputs wires s ahead (suc l) t at c {n} {k} small few room node own
         × (length v.operands ≡ count_of kind)
     view e m j r =
         let v = expression_view inputs wires s l t at c r in
-        let next-is : v.first ≡ n = cc (v.own, own) in
-        let count-is : v.before ≡ k = cc (v.own, own) in (
+        let next-is : v.first ≡ n = got-next (sym own ∙ v.own) in
+        let count-is : v.before ≡ k = got-count (sym own ∙ v.own) in (
           v,
           next-is,
           count-is,
@@ -305,13 +307,13 @@ whole_checks inputs wires s ahead (suc l) t at c {n} {k} small few room node own
         )
 
 -- where nothing is asked nothing is read
-none-asked : (read : ℕ → ℕ → ℕ → Reading Expression) (ts : List ℕ) (at c : ℕ) → length ts ≡ 0 → Got at c ≡ erased (read_each read ts at c)
+none-asked : (read : ℕ → ℕ → ℕ → Reading Expression) (ts : List ℕ) (at c : ℕ) → length ts ≡ 0 → got_at at c ≡ erased (read_each read ts at c)
 unfolding read_each
 none-asked read [] at c z = refl
 none-asked read (t ∷ ts) at c z = absurd (omega arith)
 
 -- an expression without operands and without a cell ends with its own bytes
-pub bare_checks : (inputs wires s : List ℕ) (level t at c : ℕ) {answer : Read} {d bits joint : ℕ} {cells : List ℕ} → 1 ≤ level
+pub bare_checks : (inputs wires s : List ℕ) (level t at c : ℕ) {answer : Result Got Refused} {d bits joint : ℕ} {cells : List ℕ} → 1 ≤ level
     → at < length s → Bare (get_or s at 0) → LeafChecks inputs wires s t at c answer bits joint
     → Checks s cell_forms wires_read (read_expression inputs wires s level t at c) d answer cells cells bits joint
 bare_checks inputs wires s zero t at c levels byte bare h = absurd (omega arith)
@@ -326,11 +328,11 @@ bare_checks inputs wires s (suc l) t at c {answer} {d} {bits} {joint} {cells} le
     none : length (operands_of kind t) ≡ 0
     none = operands-counted t kind bare.known ∙ bare.operands
 
-    by : (r : Read) → answer ≡ r → Checks s cell_forms wires_read (read_expression inputs wires s (suc l) t at c) d
+    by : (r : Result Got Refused) → answer ≡ r → Checks s cell_forms wires_read (read_expression inputs wires s (suc l) t at c) d
         answer cells cells bits joint
-    by (Refused why place) e = rw e (refused_checks (own-refused inputs wires s t at c (suc l) (own ∙ e)))
-    by (Got n k) e = record {
-      answers = e ∙ none-asked (read_expression inputs wires s (suc l - 1)) (operands_of kind t) n k none
+    by (Err r) e = rw e (refused_checks (own-refused inputs wires s t at c (suc l) (own ∙ e)))
+    by (Ok a) e = record {
+      answers = e ∙ none-asked (read_expression inputs wires s (suc l - 1)) (operands_of kind t) a.next a.count none
           ∙ by-operands inputs wires s t at c (suc l) (omega arith) (own ∙ e);
       cells = λ x m j r.
           let v = expression_view inputs wires s l t at c r in
@@ -345,11 +347,11 @@ bare_checks inputs wires s (suc l) t at c {answer} {d} {bits} {joint} {cells} le
           rw (ap wires_read v.tree
           ∙ reads-of-kind kind v.good.kind (type_of_byte t) (body_at s at) v.operands (sized ∙ operands-counted t kind v.good.kind)
           ∙ bare-reads bare (body_at s at) v.operands (sized ∙ none))
-          (h.reads n k e);
+          (h.reads a.next a.count e);
     }
 
 -- what gives the cell of a kept wire reads no wire
-pub last_checks : (inputs wires s : List ℕ) (level t at c : ℕ) {answer : Read} {d bits : ℕ} {cells : List ℕ} → 1 ≤ level → at < length s
+pub last_checks : (inputs wires s : List ℕ) (level t at c : ℕ) {answer : Result Got Refused} {d bits : ℕ} {cells : List ℕ} → 1 ≤ level → at < length s
     → get_or s at 0 ≡ 18 → answer ≡ body_from inputs wires s t at c
     → Checks s cell_forms wires_read (read_expression inputs wires s level t at c) d answer cells cells bits bits
 last_checks inputs wires s level t at c levels byte last e =

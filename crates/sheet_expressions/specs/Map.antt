@@ -17,8 +17,11 @@ use Rattle.sheet_names.specs.Naming.{ahead_in, Naming}
 use Rattle.sheet_own.specs.Own.{Joins, HasOperands}
 use Rattle.sheet.specs.declared.Cell.{Cell}
 use Rattle.sheet.specs.declared.Cell.TheVariants.{Started}
-use Rattle.sheet.specs.declared.Read.{Read}
-use Rattle.sheet.specs.declared.Read.TheVariants.{Refused, Got}
+use Rattle.sheet.specs.Outcomes.{refused_at}
+use Rattle.sheet.specs.Readings.{got_at}
+use Rattle.sheet.specs.declared.Got.{Got}
+use Rattle.sheet.specs.declared.Refused.{Refused}
+use Rattle.std.specs.Prelude.{Result, Ok, Err}
 
 -- the expressions of so many wires, from `at` on, read as the sheet's do
 pub record WiresRead (s : List ℕ) (wires at : ℕ) : Type 0 where
@@ -90,7 +93,7 @@ EachHoldsJust rows n lists = (w : ℕ) → w < n → HoldsJust (get_or rows w 0)
 -- the answer is that of a reading; and where it got something, its cells were noted behind c others, and what it reads within the
 -- instant was joined to a set
 pub record Checks {A : Type 0} (s : List ℕ) (forms_of : A → List CellForm) (reads_of : A → List ℕ) (reading : Reading A)
-    (c : ℕ) (answer : Read) (before after : List ℕ) (bits joint : ℕ) : Type 0 where
+    (c : ℕ) (answer : Result Got Refused) (before after : List ℕ) (bits joint : ℕ) : Type 0 where
   pub answers : answer ≡ erased reading
   pub cells : (a : A) (n k : ℕ) → reading ≡ got a n k → Entered s (forms_of a) c before after
   pub reads : (a : A) (n k : ℕ) → reading ≡ got a n k → Joins bits (reads_of a) joint
@@ -133,7 +136,7 @@ pub record Drawn (inputs types s : List ℕ) (at : ℕ) (places firsts reads cel
       → Mapped (run_of inputs types s at trees n k each) places firsts reads cells
 
 -- the answer is that of the expressions of the wires from `at` on, and the map is theirs
-pub record WiresChecked (inputs types s : List ℕ) (at : ℕ) (answer : Read) (places firsts reads cells : List ℕ) : Type 0 where
+pub record WiresChecked (inputs types s : List ℕ) (at : ℕ) (answer : Result Got Refused) (places firsts reads cells : List ℕ) : Type 0 where
   pub answers : answer ≡ erased (read_wires inputs types s at)
   pub drawn : Drawn inputs types s at places firsts reads cells
 
@@ -144,9 +147,9 @@ wires_of {s} {n = n} {k = k} v =
     run_of (before s v.inputs_end v.input_count) (before s v.wires_end v.wire_count) s v.outputs_end v.expressions n k v.each
 
 -- what holds where something was read
-abbrev pub WhereGot : Read → (ℕ → ℕ → Type 0) → Type 0
-WhereGot (Refused why place) P = Unit {0}
-WhereGot (Got n k) P = P n k
+abbrev pub WhereGot : Result Got Refused → (ℕ → ℕ → Type 0) → Type 0
+WhereGot (Err r) P = Unit {0}
+WhereGot (Ok a) P = P a.next a.count
 
 -- at most 64 type bytes, below a limit
 pub record TypeBytes (limit : ℕ) (types : List ℕ) : Type 0 where

@@ -15,7 +15,7 @@ ghost use Rattle.sheet_names.specs.Naming.{ahead_in};
 ghost use Rattle.sheet_own.specs.Own.{Lookup};
 ghost use Rattle.sheet_expressions.specs.Map.{TypeBytes, WiresLookup, Tables, Checks, NodeAt, KeptNoted, WiresChecked};
 
-use sheet::{Read, Refusal, kinds};
+use sheet::{Got, Refusal, Refused, kinds};
 use wires::Wires;
 
 // One of two sets, by a test: without a branch.
@@ -38,7 +38,7 @@ fn check_operands(
     count: usize,
     cells: &mut [u16; 64],
     reads: &mut u64,
-) -> Read
+) -> Result<Got, Refused>
     requires { Lookup names.now × (kind < kind_count) × (asked < 2) × (count ≤ 64) × (length sheet.now.now ≤ 4096)
         × (ahead_in names.now ≤ count) }
     ensures { (l : Lookup names.now)
@@ -56,19 +56,16 @@ fn check_operands(
     while i < operands {
         let before = *reads;
         let asked_here = kinds::operand_type(types, i);
-        let one = check_operand(sheet, names, level, asked_here, next, behind, cells, reads);
-        let Read::Got { next: n, count: k } = one else {
-            return one;
-        };
+        let one = check_operand(sheet, names, level, asked_here, next, behind, cells, reads)?;
         *reads = either(i < counted, *reads, before);
-        next = n;
-        behind = k;
+        next = one.next;
+        behind = one.count;
         i += 1;
     }
-    Read::Got {
+    Ok(Got {
         next,
         count: behind,
-    }
+    })
 }
 
 // The expression at `at`, which has operands: its own bytes, then they.
@@ -82,24 +79,31 @@ fn check_node(
     count: usize,
     cells: &mut [u16; 64],
     reads: &mut u64,
-) -> Read
+) -> Result<Got, Refused>
     requires { Lookup names.now × NodeAt sheet.now.now level asked at count × (ahead_in names.now ≤ count) }
     ensures { (l : Lookup names.now)
         → Checks sheet.now.now cell_forms wires_read
         (read_expression l.inputs l.wires sheet.now.now level asked at count) (count - ahead_in names.now) result
         cells.old cells.new reads.old reads.new }
 {
-    let own = sheet_own::check_own(*sheet, at, count);
-    let Read::Got { next: n, count: k } = own else {
-        return own;
-    };
+    let own = sheet_own::check_own(*sheet, at, count)?;
     let kind = sheet[at];
     if !kinds::fits(kind, asked) {
-        return sheet_own::refused(Refusal::TypeAsked, at);
+        return Err(Refusal::TypeAsked.at(at));
     }
     let number = count - sheet_names::ahead(names);
     sheet_own::note_own(kind, asked, at, number, cells);
-    check_operands(sheet, names, kind, level - 1, asked, n, k, cells, reads)
+    check_operands(
+        sheet,
+        names,
+        kind,
+        level - 1,
+        asked,
+        own.next,
+        own.count,
+        cells,
+        reads,
+    )
 }
 
 // The expression at `at` behind `count` cells: 2, 6 and 8, then what its kind asks. Kind 18 and what is above it, a machine or no kind at all,
@@ -114,7 +118,7 @@ fn check_one(
     count: usize,
     cells: &mut [u16; 64],
     reads: &mut u64,
-) -> Read
+) -> Result<Got, Refused>
     requires { Lookup names.now × (asked < 2) × (count ≤ 64) × (length sheet.now.now ≤ 4096)
         × (ahead_in names.now ≤ count) }
     ensures { (l : Lookup names.now)
@@ -123,22 +127,22 @@ fn check_one(
         cells.old cells.new reads.old reads.new }
 {
     if sheet.len() <= at {
-        return sheet_own::refused(Refusal::Cut, sheet.len());
+        return Err(Refusal::Cut.at(sheet.len()));
     }
     let kind = sheet[at];
     if kinds::LAST <= kind {
         if kinds::COUNT <= kind {
-            return sheet_own::refused(Refusal::Kind, at);
+            return Err(Refusal::Kind.at(at));
         }
         if level == 0 {
-            return sheet_own::refused(Refusal::Level, at);
+            return Err(Refusal::Level.at(at));
         }
         if kind == kinds::LAST {
             return sheet_own::check_last(*sheet, names, asked, at, count);
         }
     }
     if level == 0 {
-        return sheet_own::refused(Refusal::Level, at);
+        return Err(Refusal::Level.at(at));
     }
     if kind < 4 {
         return sheet_own::check_leaf(*sheet, names, asked, at, count, reads);
@@ -157,7 +161,7 @@ fn check_operand(
     count: usize,
     cells: &mut [u16; 64],
     reads: &mut u64,
-) -> Read
+) -> Result<Got, Refused>
     requires { Lookup names.now × (asked < 2) × (count ≤ 64) × (length sheet.now.now ≤ 4096)
         × (ahead_in names.now ≤ count) }
     ensures { (l : Lookup names.now)
@@ -181,7 +185,7 @@ fn check_whole(
     count: usize,
     cells: &mut [u16; 64],
     reads: &mut u64,
-) -> Read
+) -> Result<Got, Refused>
     requires { Lookup names.now × (asked < 2) × (count ≤ 64) × (length sheet.now.now ≤ 4096)
         × (ahead_in names.now ≤ count) }
     ensures { (l : Lookup names.now)
@@ -219,7 +223,7 @@ pub fn check_wires(
     firsts: &mut [u8; 64],
     reads: &mut [u64; 64],
     cells: &mut [u16; 64],
-) -> Read
+) -> Result<Got, Refused>
     requires wires_lookup { WiresLookup types.now names.old × TypeBytes 4 types.now × (length sheet.now.now ≤ 4096)
         × (at ≤ length sheet.now.now) × Tables places.old firsts.old reads.old cells.old }
     requires names_value { ahead_in names.old ≡ kept_count types.now }
@@ -238,14 +242,11 @@ pub fn check_wires(
         firsts[w] = first as u8;
         let none = Wires::none();
         let mut found = none.bits;
-        let one = check_whole(sheet, names, byte % 2, next, count, cells, &mut found);
-        let Read::Got { next: n, count: k } = one else {
-            return one;
-        };
+        let one = check_whole(sheet, names, byte % 2, next, count, cells, &mut found)?;
         reads[w] = found;
-        next = n;
-        count = k;
+        next = one.next;
+        count = one.count;
         w += 1;
     }
-    Read::Got { next, count }
+    Ok(Got { next, count })
 }

@@ -5,35 +5,26 @@
 ghost use Rattle.std.specs.Prelude.{◌≡◌, ◌+◌, ◌^◌, ◌<◌, cond};
 ghost use Rattle.sheet.specs.Headers.{field_of, bytes_of, section_of};
 
-use sheet::{Read, Refusal};
+use sheet::{Got, Refusal, Refused};
 
 // One byte of the header, from `low` on and below `limit`.
-fn field(sheet: &[u8], at: usize, low: usize, limit: usize, wrong: Refusal) -> Read
+fn field(sheet: &[u8], at: usize, low: usize, limit: usize, wrong: Refusal) -> Result<Got, Refused>
     ensures { result ≡ field_of sheet.now at low limit wrong }
 {
     if sheet.len() <= at {
-        return Read::Refused {
-            why: Refusal::Cut,
-            place: sheet.len(),
-        };
+        return Err(Refusal::Cut.at(sheet.len()));
     }
     let byte = sheet[at] as usize;
     if byte < low {
-        return Read::Refused {
-            why: wrong,
-            place: at,
-        };
+        return Err(wrong.at(at));
     }
     if limit <= byte {
-        return Read::Refused {
-            why: wrong,
-            place: at,
-        };
+        return Err(wrong.at(at));
     }
-    Read::Got {
+    Ok(Got {
         next: at + 1,
         count: byte,
-    }
+    })
 }
 
 // The least byte that may follow this one.
@@ -45,22 +36,26 @@ fn least(rising: bool, byte: usize) -> usize
 }
 
 // `count` bytes from `at` on, each below `limit`; where they rise, each is above the one before.
-fn bytes(sheet: &[u8], at: usize, limit: usize, rising: bool, wrong: Refusal, count: usize) -> Read
+fn bytes(
+    sheet: &[u8],
+    at: usize,
+    limit: usize,
+    rising: bool,
+    wrong: Refusal,
+    count: usize,
+) -> Result<Got, Refused>
     ensures { result ≡ bytes_of sheet.now count at 0 limit rising wrong count }
 {
     let mut place = at;
     let mut low = 0;
     let mut left = count;
     while 0 < left {
-        let one = field(sheet, place, low, limit, wrong);
-        let Read::Got { next: n, count: b } = one else {
-            return one;
-        };
-        place = n;
-        low = least(rising, b);
+        let one = field(sheet, place, low, limit, wrong)?;
+        place = one.next;
+        low = least(rising, one.count);
         left -= 1;
     }
-    Read::Got { next: place, count }
+    Ok(Got { next: place, count })
 }
 
 // A count from `fewest` on and below `excess`, then so many bytes.
@@ -72,12 +67,9 @@ pub fn section(
     limit: usize,
     rising: bool,
     wrong: Refusal,
-) -> Read
+) -> Result<Got, Refused>
     ensures { result ≡ section_of sheet.now at fewest excess limit rising wrong }
 {
-    let counted = field(sheet, at, fewest, excess, Refusal::CountRange);
-    let Read::Got { next: n, count: k } = counted else {
-        return counted;
-    };
-    bytes(sheet, n, limit, rising, wrong, k)
+    let counted = field(sheet, at, fewest, excess, Refusal::CountRange)?;
+    bytes(sheet, counted.next, limit, rising, wrong, counted.count)
 }

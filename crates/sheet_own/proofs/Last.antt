@@ -11,9 +11,11 @@ use borrow.Author.Tests.{le-ltb, lt-ltb, lt-leb, leb-true, leb-false, eq-eqb, ne
 use Rattle.sheet.specs.Data.{plain_byte, is_kept}
 use Rattle.sheet.specs.Readings.{names_of, body_from}
 use Rattle.sheet.specs.Laws.Lists.{never}
-use Rattle.sheet.specs.declared.Read.TheVariants.{Refused, Got}
 use Rattle.sheet.specs.declared.Refusal.TheVariants.{Cut, Body, TypeAsked}
 use Rattle.sheet_names.specs.Naming.{kept_in, type_in, Naming}
+use Rattle.sheet.specs.Outcomes.{refused_at}
+use Rattle.sheet.specs.Readings.{got_at}
+use Rattle.sheet.specs.declared.Got.{Got}
 
 -- the code tests the opposite
 opposite : (b : Bool) {c : Bool} → not b ≡ c → b ≡ not c
@@ -35,23 +37,23 @@ module _ (inputs wires names s : List ℕ) (t at c : ℕ) (naming : Naming input
   past : at + 1 + 1 ≡ at + 2
   past = omega arith
 
-  pub last-cut : length s ≤ at + 1 → Refused Cut (length s) ≡ body_from inputs wires s t at c
+  pub last-cut : length s ≤ at + 1 → refused_at Cut (length s) ≡ body_from inputs wires s t at c
   unfolding body_from
   last-cut cut = rw (last, past, add-zero, le-ltb 64 c room, lt-ltb (length s) (at + 2) (omega arith))
 
   -- where the body is whole
   module _ (whole : at + 1 < length s) where
-    last-names : body_from inputs wires s t at c ≡ cond (leb (length wires) named) (Refused Body at)
-        (cond (not (is_kept (get_or wires named 0))) (Refused Body at)
-        (cond (eqb (plain_byte (get_or wires named 0)) t) (Got (at + 2) c) (Refused TypeAsked at)))
+    last-names : body_from inputs wires s t at c ≡ cond (leb (length wires) named) (refused_at Body at)
+        (cond (not (is_kept (get_or wires named 0))) (refused_at Body at)
+        (cond (eqb (plain_byte (get_or wires named 0)) t) (got_at (at + 2) c) (refused_at TypeAsked at)))
     unfolding body_from names_of
     last-names = rw (last, past, add-zero, le-ltb 64 c room, le-ltb (length s) (at + 2) (omega arith))
 
-    pub last_unkept : {test : Bool} → test ≡ kept_in names named → not test ≡ true → Refused Body at ≡ body_from inputs wires s t at c
+    pub last_unkept : {test : Bool} → test ≡ kept_in names named → not test ≡ true → refused_at Body at ≡ body_from inputs wires s t at c
     last_unkept {test} tests unkept =
         rw (last-names, sym (naming.keeps named small) ∙ sym tests ∙ opposite test unkept) (go (leb (length wires) named))
       where
-        go : (b : Bool) → Refused Body at ≡ cond b (Refused Body at) (Refused Body at)
+        go : (b : Bool) → refused_at {A = Got} Body at ≡ cond b (refused_at Body at) (refused_at Body at)
         go true = refl
         go false = refl
 
@@ -66,8 +68,8 @@ module _ (inputs wires names s : List ℕ) (t at c : ℕ) (naming : Naming input
       typed_as : eqb (type_in names 2 named) t ≡ eqb (plain_byte (get_or wires named 0)) t
       typed_as = naming.types 2 named t (omega arith) small below asked
 
-      pub last-other : (type_in names 2 named ≡ t → ⊥) → Refused TypeAsked at ≡ body_from inputs wires s t at c
+      pub last-other : (type_in names 2 named ≡ t → ⊥) → refused_at TypeAsked at ≡ body_from inputs wires s t at c
       last-other other = rw (last-names, lt-leb (length wires) named below, kept, ← typed_as, ne_eqb (type_in names 2 named) t other)
 
-      pub last_good : type_in names 2 named ≡ t → Got (at + 2) c ≡ body_from inputs wires s t at c
+      pub last_good : type_in names 2 named ≡ t → got_at (at + 2) c ≡ body_from inputs wires s t at c
       last_good same = rw (last-names, lt-leb (length wires) named below, kept, ← typed_as, eq-eqb (type_in names 2 named) t same)

@@ -12,11 +12,14 @@ use Rattle.sheet.specs.Reads.{wires_named}
 use Rattle.sheet.specs.Readings.{named_at, body_at, names_of, body_from}
 use Rattle.sheet.specs.Laws.Readings.{not_good, Rows, kinds-between, ◌▸◌, end}
 use Rattle.sheet.specs.declared.Refusal.{Refusal}
-use Rattle.sheet.specs.declared.Read.{Read}
-use Rattle.sheet.specs.declared.Read.TheVariants.{Refused, Got}
 use Rattle.sheet.specs.declared.Refusal.TheVariants.{Cut, Body, TypeAsked, CellLimit}
 use Rattle.sheet_names.specs.Naming.{limit_in, type_in, Naming}
 use Rattle.sheet_own.specs.Own.{Joins, LeafChecks, then_type, HasOperands}
+use Rattle.sheet.specs.Outcomes.{refused_at}
+use Rattle.sheet.specs.Readings.{got_at}
+use Rattle.sheet.specs.declared.Got.{Got}
+use Rattle.sheet.specs.declared.Refused.{Refused}
+use Rattle.std.specs.Prelude.{Result}
 
 -- a leaf owns no cell
 pub leaf-owned : (k : ℕ) → k < 4 → owned_of k ≡ no_cell
@@ -66,7 +69,7 @@ pre-owned k owner node fby machine =
 
 -- 7 and 9 of an expression with operands
 names_node : (inputs wires s : List ℕ) (t at n k : ℕ) → HasOperands (get_or s at 0) → named_at s at < 2
-    → names_of inputs wires s t at n k ≡ then_type (get_or s at 0) t at (Got n k)
+    → names_of inputs wires s t at n k ≡ then_type (get_or s at 0) t at (got_at n k)
 unfolding names_of
 names_node inputs wires s t at n k node fine =
     rw (
@@ -78,7 +81,7 @@ names_node inputs wires s t at n k node fine =
 
 -- the own bytes of one that owns no cell: nothing but 9 is left
 pub plain-own : (inputs wires s : List ℕ) (t at c : ℕ) → at < length s → HasOperands (get_or s at 0) → get_or s at 0 < 15 → c ≤ 64
-    → body_from inputs wires s t at c ≡ then_type (get_or s at 0) t at (Got (at + 1) c)
+    → body_from inputs wires s t at c ≡ then_type (get_or s at 0) t at (got_at (at + 1) c)
 unfolding body_from
 plain-own inputs wires s t at c byte node plain room =
     let kind = get_or s at 0 in
@@ -99,11 +102,11 @@ module _ (inputs wires s : List ℕ) (t at c : ℕ) (byte : at < length s) (owne
   one : cells_of kind ≡ 1
   one = owner-cells kind owner node
 
-  pub owner-full : 64 ≤ c → Refused CellLimit at ≡ body_from inputs wires s t at c
+  pub owner-full : 64 ≤ c → refused_at CellLimit at ≡ body_from inputs wires s t at c
   unfolding body_from
   owner-full full = rw (one, lt-ltb 64 (c + 1) (omega arith))
 
-  pub owner-cut : c < 64 → length s ≤ at + body_of kind → Refused Cut (length s) ≡ body_from inputs wires s t at c
+  pub owner-cut : c < 64 → length s ≤ at + body_of kind → refused_at Cut (length s) ≡ body_from inputs wires s t at c
   unfolding body_from
   owner-cut room cut = rw (one, le-ltb 64 (c + 1) (omega arith), lt-ltb (length s) (at + 1 + body_of kind) (omega arith))
 
@@ -112,13 +115,13 @@ module _ (inputs wires s : List ℕ) (t at c : ℕ) (byte : at < length s) (owne
   unfolding body_from
   rest room whole = rw (one, le-ltb 64 (c + 1) (omega arith), le-ltb (length s) (at + 1 + body_of kind) (omega arith))
 
-  pub owner_wrong : c < 64 → at + body_of kind < length s → 1 < named_at s at → Refused Body at ≡ body_from inputs wires s t at c
+  pub owner_wrong : c < 64 → at + body_of kind < length s → 1 < named_at s at → refused_at Body at ≡ body_from inputs wires s t at c
   unfolding names_of
   owner_wrong room whole wrong =
       rw (rest room whole, node_limit inputs wires kind node, le-leb 2 (named_at s at) wrong)
 
   pub owner_good : c < 64 → at + body_of kind < length s → named_at s at < 2
-      → then_type kind t at (Got (at + 1 + body_of kind) (c + 1)) ≡ body_from inputs wires s t at c
+      → then_type kind t at (got_at (at + 1 + body_of kind) (c + 1)) ≡ body_from inputs wires s t at c
   owner_good room whole fine =
       rw (rest room whole) (sym (names_node inputs wires s t at (at + 1 + body_of kind) (c + 1) node fine))
 
@@ -128,12 +131,12 @@ module _ (inputs wires names s : List ℕ) (t at c : ℕ) (naming : Naming input
   abbrev leaf-kind : ℕ
   leaf-kind = get_or s at 0
 
-  leaf-body : body_from inputs wires s t at c ≡ cond (ltb (length s) (at + 1 + body_of leaf-kind)) (Refused Cut (length s))
+  leaf-body : body_from inputs wires s t at c ≡ cond (ltb (length s) (at + 1 + body_of leaf-kind)) (refused_at Cut (length s))
       (names_of inputs wires s t at (at + 1 + body_of leaf-kind) c)
   unfolding body_from
   leaf-body = let count : c + 0 ≡ c = omega arith in rw (leaf-owned leaf-kind leaf, count, le-ltb 64 c room)
 
-  pub leaf-cut : length s ≤ at + body_of leaf-kind → Refused Cut (length s) ≡ body_from inputs wires s t at c
+  pub leaf-cut : length s ≤ at + body_of leaf-kind → refused_at Cut (length s) ≡ body_from inputs wires s t at c
   leaf-cut cut = rw (leaf-body, lt-ltb (length s) (at + 1 + body_of leaf-kind) (omega arith))
 
   leaf-names : at + body_of leaf-kind < length s
@@ -141,7 +144,7 @@ module _ (inputs wires names s : List ℕ) (t at c : ℕ) (naming : Naming input
   leaf-names whole = rw (leaf-body, le-ltb (length s) (at + 1 + body_of leaf-kind) (omega arith))
 
   pub leaf_wrong : at + body_of leaf-kind < length s → limit_in names leaf-kind ≤ get_or s (at + 1) 0
-      → Refused Body at ≡ body_from inputs wires s t at c
+      → refused_at Body at ≡ body_from inputs wires s t at c
   unfolding names_of
   leaf_wrong whole wrong =
       rw (
@@ -162,12 +165,12 @@ module _ (inputs wires names s : List ℕ) (t at c : ℕ) (naming : Naming input
     typed_as =
         naming.types leaf-kind (get_or s (at + 1) 0) t leaf small (leb-false (limit_of inputs wires leaf-kind) (named_at s at) limited) asked
 
-    pub leaf-other : (type_in names leaf-kind (get_or s (at + 1) 0) ≡ t → ⊥) → Refused TypeAsked at ≡ body_from inputs wires s t at c
+    pub leaf-other : (type_in names leaf-kind (get_or s (at + 1) 0) ≡ t → ⊥) → refused_at TypeAsked at ≡ body_from inputs wires s t at c
     unfolding names_of
     leaf-other other =
         rw (leaf-names whole, limited, unkept, ← typed_as, ne_eqb (type_in names leaf-kind (get_or s (at + 1) 0)) t other)
 
-    pub leaf_good : type_in names leaf-kind (get_or s (at + 1) 0) ≡ t → Got (at + 1 + body_of leaf-kind) c ≡ body_from inputs wires s t at c
+    pub leaf_good : type_in names leaf-kind (get_or s (at + 1) 0) ≡ t → got_at (at + 1 + body_of leaf-kind) c ≡ body_from inputs wires s t at c
     unfolding names_of
     leaf_good same =
         rw (leaf-names whole, limited, unkept, ← typed_as, eq-eqb (type_in names leaf-kind (get_or s (at + 1) 0)) t same)
@@ -193,6 +196,6 @@ pub leaf-long : (k : ℕ) → k < 4 → 1 ≤ body_of k
 leaf-long k l = kinds-between (λ k. 1 ≤ body_of k) {low = 0} (omega arith ▸ omega arith ▸ omega arith ▸ omega arith ▸ end) k (omega arith) l
 
 -- nothing is read by a leaf that is refused
-pub leaf-refused : {inputs wires s : List ℕ} {t at c bits joint place : ℕ} {why : Refusal} {answer : Read}
-    → Refused why place ≡ body_from inputs wires s t at c → answer ≡ Refused why place → LeafChecks inputs wires s t at c answer bits joint
+pub leaf-refused : {inputs wires s : List ℕ} {t at c bits joint place : ℕ} {why : Refusal} {answer : Result Got Refused}
+    → refused_at why place ≡ body_from inputs wires s t at c → answer ≡ refused_at why place → LeafChecks inputs wires s t at c answer bits joint
 leaf-refused e a = record { answers = a ∙ e; reads = λ n k q. not_good (sym a ∙ q) }

@@ -7,8 +7,11 @@ use Rattle.sheet.specs.Reads.{wires_named}
 use Rattle.sheet.specs.Readings.{body_from, body_at}
 use Rattle.sheet_names.specs.Naming.{Naming}
 use Rattle.sheet.specs.declared.Refusal.TheVariants.{TypeAsked}
-use Rattle.sheet.specs.declared.Read.{Read}
-use Rattle.sheet.specs.declared.Read.TheVariants.{Refused, Got}
+use Rattle.sheet.specs.Outcomes.{refused_at}
+use Rattle.sheet.specs.Readings.{got_at}
+use Rattle.sheet.specs.declared.Got.{Got}
+use Rattle.sheet.specs.declared.Refused.{Refused}
+use Rattle.std.specs.Prelude.{Result, Ok, Err}
 
 -- numbers that the names of some sheet's expressions are looked up in
 pub record Lookup (names : List ℕ) : Type 0 where
@@ -21,14 +24,14 @@ pub record Joins (n : ℕ) (ws : List ℕ) (m : ℕ) : Type 0 where
   pub joined : (k : ℕ) → member m k ≡ (member n k || among k ws)
 
 -- a leaf: the answer is that of its own bytes, and the wire that it names was joined to a set
-pub record LeafChecks (inputs wires s : List ℕ) (t at c : ℕ) (answer : Read) (bits joint : ℕ) : Type 0 where
+pub record LeafChecks (inputs wires s : List ℕ) (t at c : ℕ) (answer : Result Got Refused) (bits joint : ℕ) : Type 0 where
   pub answers : answer ≡ body_from inputs wires s t at c
-  pub reads : (n k : ℕ) → answer ≡ Got n k → Joins bits (wires_named (get_or s at 0) (body_at s at)) joint
+  pub reads : (n k : ℕ) → answer ≡ got_at n k → Joins bits (wires_named (get_or s at 0) (body_at s at)) joint
 
 -- 9 behind an answer, of an expression of kind k at a place, which has not the type of something that it names
-abbrev pub then_type : (k t at : ℕ) → Read → Read
-then_type k t at (Refused why place) = Refused why place
-then_type k t at (Got n c) = cond (eqb (typed t (own_type_of k)) t) (Got n c) (Refused TypeAsked at)
+abbrev pub then_type : (k t at : ℕ) → Result Got Refused → Result Got Refused
+then_type k t at (Err r) = Err r
+then_type k t at (Ok a) = cond (eqb (typed t (own_type_of k)) t) (Ok a) (refused_at TypeAsked at)
 
 -- a kind with operands: no leaf, and not kind 18, which gives the cell of a kept wire
 pub record HasOperands (k : ℕ) : Type 0 where

@@ -6,18 +6,10 @@ ghost use Rattle.std.specs.Prelude.{◌≡◌, List, ℕ, ◌<◌, ◌≤◌, le
 ghost use Rattle.std.proofs.lemmas.List.Edits.{sets};
 ghost use Rattle.sheet.specs.Reads.{wires_named};
 ghost use Rattle.sheet.specs.Readings.{body_from};
-ghost use Rattle.sheet.specs.declared.Read.TheVariants.{Refused};
 ghost use Rattle.sheet_own.specs.Own.{Lookup, Joins, LeafChecks, then_type, HasOperands, own_entries};
 
-use sheet::{Read, Refusal, bodies, kinds};
+use sheet::{Got, Refusal, Refused, bodies, kinds};
 use wires::Wires;
-
-// A refusal at a place.
-pub fn refused(why: Refusal, place: usize) -> Read
-    ensures { result ≡ Refused why place }
-{
-    Read::Refused { why, place }
-}
 
 // The set found so far, with the wire that a leaf of this kind names, if it names one.
 fn with_named(kind: u8, named: u8, found: Wires) -> Wires
@@ -39,7 +31,7 @@ pub fn check_leaf(
     at: usize,
     count: usize,
     reads: &mut u64,
-) -> Read
+) -> Result<Got, Refused>
     requires { Lookup names.now × (at < length sheet.now) × (get_or sheet.now at 0 < 4) × (asked < 2) × (count ≤ 64) }
     ensures { (l : Lookup names.now)
         → LeafChecks l.inputs l.wires sheet.now asked at count result reads.old reads.new }
@@ -47,79 +39,85 @@ pub fn check_leaf(
     let kind = sheet[at];
     let body = kinds::body(kind);
     if sheet.len() - at <= body {
-        return refused(Refusal::Cut, sheet.len());
+        return Err(Refusal::Cut.at(sheet.len()));
     }
     let named = sheet[at + 1];
     if sheet_names::limit(names, kind) <= named as u64 {
-        return refused(Refusal::Body, at);
+        return Err(Refusal::Body.at(at));
     }
     if sheet_names::type_of(names, kind, named) != asked {
-        return refused(Refusal::TypeAsked, at);
+        return Err(Refusal::TypeAsked.at(at));
     }
     let bits = *reads;
     let grown = with_named(kind, named, Wires { bits });
     *reads = grown.bits;
-    Read::Got {
+    Ok(Got {
         next: at + 1 + body,
         count,
-    }
+    })
 }
 
 // 2, 7 and 9 of the expression at `at`, which gives the cell of a kept wire, kind 18; no wire is read.
-pub fn check_last(sheet: &[u8], names: &[u64; 10], asked: u8, at: usize, count: usize) -> Read
+pub fn check_last(
+    sheet: &[u8],
+    names: &[u64; 10],
+    asked: u8,
+    at: usize,
+    count: usize,
+) -> Result<Got, Refused>
     requires { Lookup names.now × (at < length sheet.now) × (get_or sheet.now at 0 ≡ 18) × (asked < 2) × (count ≤ 64) }
     ensures { (l : Lookup names.now) → result ≡ body_from l.inputs l.wires sheet.now asked at count }
 {
     if sheet.len() - at <= 1 {
-        return refused(Refusal::Cut, sheet.len());
+        return Err(Refusal::Cut.at(sheet.len()));
     }
     let named = sheet[at + 1];
     if !sheet_names::is_kept(names, named) {
-        return refused(Refusal::Body, at);
+        return Err(Refusal::Body.at(at));
     }
     if sheet_names::type_of(names, 2, named) != asked {
-        return refused(Refusal::TypeAsked, at);
+        return Err(Refusal::TypeAsked.at(at));
     }
-    Read::Got {
+    Ok(Got {
         next: at + 2,
         count,
-    }
+    })
 }
 
 // 10, 2 and 7 of the expression at `at`, which owns a cell, kinds 15 to 17 and 19, behind `count` others; 9 comes behind them.
-fn check_cell(sheet: &[u8], at: usize, count: usize) -> Read
+fn check_cell(sheet: &[u8], at: usize, count: usize) -> Result<Got, Refused>
     requires { (at < length sheet.now) × (15 ≤ get_or sheet.now at 0) × HasOperands (get_or sheet.now at 0) }
     ensures { (inputs wires : List ℕ) (asked : ℕ)
         → then_type (get_or sheet.now at 0) asked at result ≡ body_from inputs wires sheet.now asked at count }
 {
     if 64 <= count {
-        return refused(Refusal::CellLimit, at);
+        return Err(Refusal::CellLimit.at(at));
     }
     let body = kinds::body(sheet[at]);
     if sheet.len() - at <= body {
-        return refused(Refusal::Cut, sheet.len());
+        return Err(Refusal::Cut.at(sheet.len()));
     }
     if 1 < bodies::named_at(sheet, at) {
-        return refused(Refusal::Body, at);
+        return Err(Refusal::Body.at(at));
     }
-    Read::Got {
+    Ok(Got {
         next: at + 1 + body,
         count: count + 1,
-    }
+    })
 }
 
 // What the own bytes of the expression at `at`, which has operands, kinds 4 to 17 and 19, are refused for; 9 comes behind it.
-pub fn check_own(sheet: &[u8], at: usize, count: usize) -> Read
+pub fn check_own(sheet: &[u8], at: usize, count: usize) -> Result<Got, Refused>
     requires at_in_bounds { (at < length sheet.now) × HasOperands (get_or sheet.now at 0) × (count ≤ 64) }
     requires sheet_len_bound { length sheet.now ≤ 4096 }
     ensures { (inputs wires : List ℕ) (asked : ℕ)
         → then_type (get_or sheet.now at 0) asked at result ≡ body_from inputs wires sheet.now asked at count }
 {
     if sheet[at] < 15 {
-        return Read::Got {
+        return Ok(Got {
             next: at + 1,
             count,
-        };
+        });
     }
     check_cell(sheet, at, count)
 }

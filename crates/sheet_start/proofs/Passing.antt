@@ -6,18 +6,20 @@ use mathlib.Core.List.{List}
 use lib.Dec.{eqb}
 use lib.ListN.{length}
 use Rattle.sheet.specs.Expressions.{CellForm}
-use Rattle.sheet.specs.Outcomes.{refusal, result, holds_after}
+use Rattle.sheet.specs.Outcomes.{refusal, result, holds_after, done_of}
+use Rattle.sheet.specs.declared.Counts.{Counts}
 use Rattle.sheet.specs.Sheets.{Sheet, forms_of, sheet_forms, sheet_of, check_of}
-use Rattle.sheet.specs.Memory.{memory_bytes, start_memory, answer_of, start_outcome, start_call}
+use Rattle.sheet.specs.Memory.{memory_bytes, start_memory, start_outcome, start_call}
 use Rattle.sheet.proofs.Laws.Checked.{check_passed}
 use Rattle.sheet.specs.Laws.Headers.{SheetRead}
 use Rattle.sheet.specs.declared.Refusal.{Refusal}
 use Rattle.sheet.specs.declared.Refusal.TheVariants.{MemoryLength}
-use Rattle.sheet.specs.declared.Checked.TheVariants.{Passed}
-use Rattle.sheet.specs.declared.Started.{Started as StartAnswer}
-use Rattle.sheet.specs.declared.Started.TheVariants.{Refused, Done}
 use Rattle.sheet_expressions.specs.Map.{Mapped, wires_of}
 use Rattle.sheet_start.specs.Owners.{Noted, Starts}
+use Rattle.sheet.specs.Outcomes.{refused_at}
+use Rattle.sheet.specs.declared.Refused.{Refused}
+use Rattle.std.specs.Prelude.{Ok}
+use Rattle.std.specs.Prelude.{Result}
 
 -- what a sheet that passes the check with so many cells has, where they were noted
 pub record Passes (s entries : List ℕ) (count : ℕ) : Type 0 where
@@ -26,10 +28,11 @@ pub record Passes (s entries : List ℕ) (count : ℕ) : Type 0 where
   pub noted : Noted s entries count
   pub same : noted.forms ≡ sheet_forms sheet
 
-pub passes : (s : List ℕ) {places firsts reads entries : List ℕ} (i w o count : ℕ) → check_of s ≡ Passed i w o count
-    → ((sheet : Sheet) (n k : ℕ) (v : SheetRead s sheet n k) → Mapped (wires_of v) places firsts reads entries) → Passes s entries count
-passes s i w o count e map =
-    let p = check_passed s i w o count e in
+pub passes : (s : List ℕ) {places firsts reads entries : List ℕ} (counts : Counts) → check_of s ≡ Ok counts
+    → ((sheet : Sheet) (n k : ℕ) (v : SheetRead s sheet n k) → Mapped (wires_of v) places firsts reads entries)
+    → Passes s entries counts.cells
+passes s counts e map =
+    let p = check_passed s counts e in
     let v = p.view in
     let same : forms_of v.expressions ≡ sheet_forms p.sheet = sym (ap sheet_forms v.is) in
     record {
@@ -39,14 +42,14 @@ passes s i w o count e map =
         forms = forms_of v.expressions;
         few = p.few-cells;
         counted = sym (ap length same ∙ p.cells_are);
-        noted = (map p.sheet p.end count v).cell;
+        noted = (map p.sheet p.end counts.cells v).cell;
       };
       same = same;
     }
 
 -- a memory of its length is filled, and one of another length is left as it is and refused
-module _ {forms : List CellForm} {count : ℕ} (counted : count ≡ length forms) (memory : List ℕ) {answer : StartAnswer} {after : List ℕ}
-    (answers : answer ≡ cond (eqb (length memory) (5 * count)) Done (Refused MemoryLength 0)) where
+module _ {forms : List CellForm} {count : ℕ} (counted : count ≡ length forms) (memory : List ℕ) {answer : Result (Unit {0}) Refused} {after : List ℕ}
+    (answers : answer ≡ cond (eqb (length memory) (5 * count)) (Ok tt) (refused_at MemoryLength 0)) where
   pub starts-filled : eqb (length memory) (5 * count) ≡ true → after ≡ memory_bytes (start_memory forms) → Starts forms memory answer after
   starts-filled fits filled = record { answers = rw (← counted) answers; holds = rw (← counted, fits) filled }
 
@@ -56,11 +59,11 @@ module _ {forms : List CellForm} {count : ℕ} (counted : count ≡ length forms
 -- the start's call, case by case
 module _ (s memory : List ℕ) where
   pub start-stopped : {why : Refusal} {place : ℕ} → sheet_of s ≡ refusal why place
-      → (Refused why place ≡ (start_call s memory).answer) × (memory ≡ (start_call s memory).memory)
+      → (refused_at why place ≡ (start_call s memory).answer) × (memory ≡ (start_call s memory).memory)
   unfolding start_call start_outcome
   start-stopped e = rw e (refl, refl)
 
-  pub start-passed : {sheet : Sheet} {answer : StartAnswer} {after : List ℕ} → sheet_of s ≡ result sheet
+  pub start-passed : {sheet : Sheet} {answer : Result (Unit {0}) Refused} {after : List ℕ} → sheet_of s ≡ result sheet
       → Starts (sheet_forms sheet) memory answer after
       → (answer ≡ (start_call s memory).answer) × (after ≡ (start_call s memory).memory)
   unfolding start_call start_outcome
@@ -70,6 +73,6 @@ module _ (s memory : List ℕ) where
     where
       go : (fits : Bool) (bytes : List ℕ) →
           let outcome = cond fits (result bytes) (refusal MemoryLength 0) in
-          (cond fits Done (Refused MemoryLength 0) ≡ answer_of outcome) × (cond fits bytes memory ≡ holds_after outcome (λ x. x) memory)
+          (cond fits (Ok tt) (refused_at MemoryLength 0) ≡ done_of outcome) × (cond fits bytes memory ≡ holds_after outcome (λ x. x) memory)
       go true bytes = (refl, refl)
       go false bytes = (refl, refl)

@@ -2,18 +2,18 @@
 // Rests on `check_map`, on `sheet_cells` for the cell that an expression owns, on `data` for a kept wire's, and on `memory` for bytes.
 #![tactic(auto)]
 
-ghost use Rattle.std.specs.Prelude.{◌≡◌, cond, ◌*◌, length};
+ghost use Rattle.std.specs.Prelude.{◌≡◌, cond, ◌*◌, length, Ok};
 ghost use Rattle.sheet.specs.Memory.{memory_bytes, start_memory, start_call};
 ghost use Rattle.sheet.specs.Readings.{Whole};
 ghost use Rattle.sheet_expressions.specs.Map.{owner_in, no_owner, start_in};
 ghost use Rattle.sheet.specs.declared.Refusal.TheVariants.{MemoryLength};
-ghost use Rattle.sheet.specs.declared.Started.TheVariants.{Refused, Done};
+ghost use Rattle.sheet.specs.Outcomes.{refused_at};
 ghost use Rattle.sheet_start.specs.Owners.{Noted, Starts};
 
-use sheet::{Cell, Checked, Refusal, Started, data, memory};
+use sheet::{Cell, Refusal, Refused, data, memory};
 
 // The start: the memory gets its starting cells, or it is left as it is where 1 to 12 refuse.
-pub fn start(sheet: &[u8], memory: &mut [u8]) -> Started
+pub fn start(sheet: &[u8], memory: &mut [u8]) -> Result<(), Refused>
     ensures value { result ≡ (start_call sheet.now memory.old).answer }
     ensures memory_after { memory.new ≡ (start_call sheet.now memory.old).memory }
 {
@@ -21,19 +21,17 @@ pub fn start(sheet: &[u8], memory: &mut [u8]) -> Started
     let mut firsts = [0u8; 64];
     let mut reads = [0u64; 64];
     let mut cells = [0u16; 64];
-    match sheet_check::check_map(sheet, &mut places, &mut firsts, &mut reads, &mut cells) {
-        Checked::Refused { why, place } => Started::Refused { why, place },
-        Checked::Passed {
-            inputs: _,
-            wires: _,
-            outputs: _,
-            cells: count,
-        } => start_cells(sheet, &cells, count, memory),
-    }
+    let counts = sheet_check::check_map(sheet, &mut places, &mut firsts, &mut reads, &mut cells)?;
+    start_cells(sheet, &cells, counts.cells, memory)
 }
 
 // The start of a sheet that passes the check: 12 where the memory has another length.
-fn start_cells(sheet: &[u8], cells: &[u16; 64], count: usize, memory: &mut [u8]) -> Started
+fn start_cells(
+    sheet: &[u8],
+    cells: &[u16; 64],
+    count: usize,
+    memory: &mut [u8],
+) -> Result<(), Refused>
     requires { Noted sheet.now cells.now count }
     ensures { (p : Noted sheet.now cells.now count)
         → Starts p.forms memory.old result memory.new }
@@ -72,14 +70,11 @@ fn start_cell(sheet: &[u8], entry: u16) -> Cell
 }
 
 // The answer where the sheet passes the check: done where the memory was filled, else 12.
-fn started(filled: bool) -> Started
-    ensures { result ≡ cond filled Done (Refused MemoryLength 0) }
+fn started(filled: bool) -> Result<(), Refused>
+    ensures { result ≡ cond filled (Ok tt) (refused_at MemoryLength 0) }
 {
     if filled {
-        return Started::Done;
+        return Ok(());
     }
-    Started::Refused {
-        why: Refusal::MemoryLength,
-        place: 0,
-    }
+    Err(Refusal::MemoryLength.at(0))
 }

@@ -16,11 +16,11 @@ accepted_packable : {answer : InRounds} {rounds : ℕ} → answer ≡ Accepted r
 accepted_packable e p = rw e at p
 
 pub packed-requires : goal.packed-requires
-packed-requires c = refused_packable c.in-Refused.is c.requires
+packed-requires c = rw c.at.ensures (refused_packable c.in-Refused.is c.requires)
 
 pub overflow_cast-result : goal.overflow_cast-result
 overflow_cast-result c =
     let few = accepted_packable c.in-Accepted.is c.requires in record { fits = omega arith }
 
 pub returns-in-Refused : goal.returns-in-Refused
-returns-in-Refused c = c.packed.ensures ∙ ap packed_rounds (sym c.in-Refused.is)
+returns-in-Refused c = (rw c.at.ensures at c.packed.ensures) ∙ ap packed_rounds (sym c.in-Refused.is)

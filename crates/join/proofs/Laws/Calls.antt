@@ -16,10 +16,8 @@ use Rattle.sheet.specs.Laws.Lists.{never}
 use Rattle.sheet.specs.Laws.Outcomes.{same-result}
 use Rattle.sheet.specs.Laws.Refusals.{check_refusals}
 use Rattle.sheet.proofs.Laws.Typing.{passed_check}
-use Rattle.sheet.specs.declared.Checked.TheVariants.{Refused as RefusedSheet}
 use Rattle.sheet.specs.declared.Refusal.{Refusal}
 use Rattle.sheet.specs.declared.Refusal.TheVariants.{OutputLength, JoinedLimit}
-use Rattle.sheet.specs.declared.Started.TheVariants.{Done as Filled}
 use Rattle.kernel.specs.Schedules.{schedule_of}
 use Rattle.kernel.specs.Calls.{rounds_call, scheduled_call}
 use Rattle.join.specs.Joined.{shifted_numbers, joined_list, joined}
@@ -35,6 +33,8 @@ use Rattle.join.proofs.Laws.Limits.{counts_of, Limited, limited}
 use Rattle.join.specs.Runs.{RoundsJoined, ScheduledJoined}
 use Rattle.join.proofs.Laws.Runs.{in_rounds_lem, along_schedule_lem}
 use Rattle.join.proofs.Laws.Schedules.{passes-joined, passes-parts}
+use Rattle.sheet.specs.Outcomes.{refused_at}
+use Rattle.std.specs.Prelude.{Ok}
 
 -- What is promised.
 
@@ -61,7 +61,7 @@ pub record JoinedSheet (s t bytes : List ℕ) (first second : Counts) : Type 0 w
   -- the starting memory is the two joined
   pub starts : (memory other : List ℕ) → length memory ≡ 5 * first.cells → length other ≡ 5 * second.cells
       → start_call bytes (memory ++ other)
-      ≡ record { answer = Filled; memory = (start_call s memory).memory ++ (start_call t other).memory }
+      ≡ record { answer = Ok tt; memory = (start_call s memory).memory ++ (start_call t other).memory }
   -- joined schedules pass 17 to 19 exactly if both do
   pub schedules : (one other : Sheet) → sheet_of s ≡ result one → sheet_of t ≡ result other
       → (list₁ list₂ : List ℕ) → length list₁ ≡ first.wires → length list₂ ≡ second.wires
@@ -103,9 +103,9 @@ module _ (s t buffer : List ℕ) where
 
   pub record JoinAnswered (now : JoinCall) : Type 0 where
     pub first_refused : {why : Refusal} {place : ℕ} → now.answer ≡ FirstRefused why place
-        → (check_of s ≡ RefusedSheet why place) × (now.joined ≡ buffer)
+        → (check_of s ≡ refused_at why place) × (now.joined ≡ buffer)
     pub second_refused : {why : Refusal} {place : ℕ} → now.answer ≡ SecondRefused why place
-        → ((counts : Counts) × (check_of s ≡ passed_with counts)) × (check_of t ≡ RefusedSheet why place) × (now.joined ≡ buffer)
+        → ((counts : Counts) × (check_of s ≡ passed_with counts)) × (check_of t ≡ refused_at why place) × (now.joined ≡ buffer)
     pub refused : {why : Refusal} {place : ℕ} → now.answer ≡ Refused why place
         → (place ≡ 0) × ((both : BothPass s t) × RefusedBoth both why) × (now.joined ≡ buffer)
     pub done : now.answer ≡ Done
@@ -150,7 +150,7 @@ module _ (s t : List ℕ) (first second : Sheet) (read₁ : sheet_of s ≡ resul
 
     starts-joined : (memory other : List ℕ) → length memory ≡ 5 * length (sheet_forms first) → length other ≡ 5 * length (sheet_forms second)
         → start_call written (memory ++ other)
-        ≡ record { answer = Filled; memory = (start_call s memory).memory ++ (start_call t other).memory }
+        ≡ record { answer = Ok tt; memory = (start_call s memory).memory ++ (start_call t other).memory }
     unfolding start_call start_outcome
     starts-joined memory other sized₁ sized₂ =
         let sized : length (memory ++ other) ≡ 5 * length (sheet_forms both) =

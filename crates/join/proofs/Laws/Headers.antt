@@ -16,10 +16,13 @@ use Rattle.sheet.specs.Laws.Readings.{not_good}
 use Rattle.sheet.specs.Laws.Headers.{field_good, section_good}
 use Rattle.sheet.specs.declared.Refusal.{Refusal}
 use Rattle.sheet.specs.declared.Refusal.TheVariants.{CountRange}
-use Rattle.sheet.specs.declared.Read.{Read}
-use Rattle.sheet.specs.declared.Read.TheVariants.{Refused, Got}
 use Rattle.join.specs.Joined.{shifted_numbers}
 use Rattle.join.specs.Bytes.{counted, section, behind}
+use Rattle.sheet.specs.Outcomes.{refused_at}
+use Rattle.sheet.specs.Readings.{got_at}
+use Rattle.sheet.specs.declared.Got.{Got}
+use Rattle.sheet.specs.declared.Refused.{Refused}
+use Rattle.std.specs.Prelude.{Result, Ok, Err}
 
 -- bytes from `low` on and below the limit; where they rise, each is above the one before
 pub data Ranged (limit : ℕ) (rising : Bool) : (low : ℕ) → List ℕ → Type 0 where
@@ -27,10 +30,10 @@ pub data Ranged (limit : ℕ) (rising : Bool) : (low : ℕ) → List ℕ → Typ
   byte : {low b : ℕ} {bs : List ℕ} → low ≤ b → b < limit → Ranged limit rising (cond rising (b + 1) 0) bs
       → Ranged limit rising low (b ∷ bs)
 
-on_read_good : (first : Read) (f : ℕ → ℕ → Read) {n k : ℕ} → on_read first Refused f ≡ Got n k
-    → (m : ℕ) × (j : ℕ) × (first ≡ Got m j) × (f m j ≡ Got n k)
-on_read_good (Refused why place) f e = not_good e
-on_read_good (Got m j) f e = (m, j, refl, e)
+on_read_good : (first : Result Got Refused) (f : ℕ → ℕ → Result Got Refused) {n k : ℕ} → on_read first refused_at f ≡ got_at n k
+    → (m : ℕ) × (j : ℕ) × (first ≡ got_at m j) × (f m j ≡ got_at n k)
+on_read_good (Err r) f e = not_good e
+on_read_good (Ok a) f e = (a.next, a.count, refl, e)
 
 -- a list that begins with a count
 split-section : (r : List ℕ) → get_or r 0 0 < length r → r ≡ counted (section r) ++ behind r
@@ -50,7 +53,7 @@ module _ (s : List ℕ) where
   )
 
   field-read : (at low limit : ℕ) (wrong : Refusal) (b : ℕ) (rest : List ℕ) → drop at s ≡ b ∷ rest → low ≤ b → b < limit
-      → field_of s at low limit wrong ≡ Got (at + 1) b
+      → field_of s at low limit wrong ≡ got_at (at + 1) b
   unfolding field_of
   field-read at low limit wrong b rest e l m =
       let (here, same, next) = starts at b rest e in
@@ -58,15 +61,15 @@ module _ (s : List ℕ) where
 
   module _ (limit : ℕ) (rising : Bool) (wrong : Refusal) (count : ℕ) where
     bytes_read : (bs back : List ℕ) (at low : ℕ) → drop at s ≡ bs ++ back → Ranged limit rising low bs
-        → bytes_of s (length bs) at low limit rising wrong count ≡ Got (at + length bs) count
+        → bytes_of s (length bs) at low limit rising wrong count ≡ got_at (at + length bs) count
     unfolding bytes_of
-    bytes_read [] back at low e done = ap (λ x. Got x count) (omega arith)
+    bytes_read [] back at low e done = ap (λ x. got_at x count) (omega arith)
     bytes_read (b ∷ bs) back at low e (byte l m h) =
         let (here, same, next) = starts at b (bs ++ back) e in
         rw (field-read at low limit wrong b (bs ++ back) e l m)
-        (bytes_read bs back (at + 1) (cond rising (b + 1) 0) next h ∙ ap (λ x. Got x count) (omega arith))
+        (bytes_read bs back (at + 1) (cond rising (b + 1) 0) next h ∙ ap (λ x. got_at x count) (omega arith))
 
-    bytes-ranged : (left at low : ℕ) {n k : ℕ} → bytes_of s left at low limit rising wrong count ≡ Got n k
+    bytes-ranged : (left at low : ℕ) {n k : ℕ} → bytes_of s left at low limit rising wrong count ≡ got_at n k
         → Ranged limit rising low (take left (drop at s))
     unfolding bytes_of
     bytes-ranged zero at low e = done
@@ -78,7 +81,7 @@ module _ (s : List ℕ) where
 
   pub section-read : (bs back : List ℕ) (at fewest excess limit : ℕ) (rising : Bool) (wrong : Refusal) → drop at s ≡ counted bs ++ back
       → fewest ≤ length bs → length bs < excess → Ranged limit rising 0 bs
-      → section_of s at fewest excess limit rising wrong ≡ Got (at + 1 + length bs) (length bs)
+      → section_of s at fewest excess limit rising wrong ≡ got_at (at + 1 + length bs) (length bs)
   unfolding section_of
   section-read bs back at fewest excess limit rising wrong e l m h =
       let (here, same, next) = starts at (length bs) (bs ++ back) e in
@@ -108,7 +111,7 @@ module _ (s : List ℕ) where
     pub ranged : Ranged limit rising 0 (section r)
 
   pub section-view : (r : List ℕ) (at fewest excess limit : ℕ) (rising : Bool) (wrong : Refusal) {n k : ℕ} → drop at s ≡ r
-      → section_of s at fewest excess limit rising wrong ≡ Got n k → SectionView r at fewest excess limit rising n k
+      → section_of s at fewest excess limit rising wrong ≡ got_at n k → SectionView r at fewest excess limit rising n k
   unfolding section_of
   section-view r at fewest excess limit rising wrong {n} {k} here e =
       let g = section_good s at fewest excess limit rising wrong e in

@@ -18,10 +18,10 @@ use Rattle.sheet.specs.Sheets.{wire_tree, read_wire}
 use Rattle.sheet.specs.Laws.Readings.{OwnGood, end, ◌▸◌, every-kind, no-level, run-view, expression_view, expression_extent, run-extent}
 use Rattle.sheet.proofs.Laws.Wires.{wire-view}
 use Rattle.sheet.specs.declared.Datum.TheVariants.{Boolean}
-use Rattle.sheet.specs.declared.Read.TheVariants.{Got}
 use Rattle.join.specs.Joined.{shifted}
 use Rattle.join.specs.Bytes.{raise_of, shifted_bytes}
 use Rattle.join.proofs.Laws.Parts.{Inside, inside-fits, inside-at}
+use Rattle.sheet.specs.Readings.{got_at}
 
 at_map : (f : ℕ → ℕ) (xs : List ℕ) (i : ℕ) → i < length xs → get_or (map f xs) i 0 ≡ f (get_or xs i 0)
 at_map f [] i l = absurd (omega arith)
@@ -186,7 +186,7 @@ each-rises read rises (t ∷ ts) at c r =
     omega arith
 
 -- own bytes that are good are read
-good_own : (ins ws s : List ℕ) (level t at c n k : ℕ) → OwnGood ins ws s level t at c n k → own_of ins ws s level t at c ≡ Got n k
+good_own : (ins ws s : List ℕ) (level t at c n k : ℕ) → OwnGood ins ws s level t at c n k → own_of ins ws s level t at c ≡ got_at n k
 unfolding own_of body_from names_of
 good_own ins ws s level t at c n k g =
     rw (lt-leb (length s) at g.starts, lt-leb kind_count (get_or s at 0) g.kind, ne_eqb level 0 (λ e. omega (arith, g.levels)))
@@ -195,11 +195,11 @@ good_own ins ws s level t at c n k g =
       lt-leb (limit_of ins ws (get_or s at 0)) (named_at s at) g.names,
       g.asked-kept,
       eq-eqb (found_of ins ws t (get_or s at 0) (named_at s at)) t g.type,
-    ) (ap₂ Got (sym g.next) (sym g.count))))
+    ) (ap₂ got_at (sym g.next) (sym g.count))))
 
 -- and an expression whose own bytes and operands are read
 good_expression : (ins ws s : List ℕ) (level t at c kind : ℕ) {n k m j : ℕ} {os : List Expression} {e : Expression}
-    → own_of ins ws s (suc level) t at c ≡ Got n k → get_or s at 0 ≡ kind
+    → own_of ins ws s (suc level) t at c ≡ got_at n k → get_or s at 0 ≡ kind
     → read_each (read_expression ins ws s level) (operands_of kind t) n k ≡ got os m j
     → meaning_of kind (type_of_byte t) (body_at s at) os ≡ e → read_expression ins ws s (suc level) t at c ≡ got e m j
 unfolding read_expression
@@ -342,7 +342,7 @@ module _ (wires inputs : ℕ) (ins allIns ws allWs : List ℕ) (on_inputs : Insi
             next = os.next;
             here = os.here;
             reads = good_expression allIns allWs t level u b (extra + c) kind
-                (good_own allIns allWs t (suc level) u b (extra + c) _ _ own ∙ ap (Got (b + 1 + body_of kind)) before)
+                (good_own allIns allWs t (suc level) u b (extra + c) _ _ own ∙ ap (got_at (b + 1 + body_of kind)) before)
                 o.kind os.reads tree;
           }
 

@@ -9,10 +9,12 @@ use Rattle.sheet.specs.Readings.{Reading, refused, got, on_read}
 use Rattle.sheet.specs.Sheets.{Sheet, before, read_wires, expressions_from, outputs_from, wires_from, read_sheet}
 use Rattle.sheet.specs.Laws.Headers.{sheet-view}
 use Rattle.sheet.specs.declared.Refusal.TheVariants.{TypeByte, OutputWire}
-use Rattle.sheet.specs.declared.Read.{Read}
-use Rattle.sheet.specs.declared.Read.TheVariants.{Got}
 use Rattle.join.specs.Bytes.{Sections, counted, sheet_bytes, section, behind, sections_of}
 use Rattle.join.proofs.Laws.Headers.{Ranged, section-read, section-bytes, section-behind, section-view}
+use Rattle.sheet.specs.Readings.{got_at}
+use Rattle.sheet.specs.declared.Got.{Got}
+use Rattle.sheet.specs.declared.Refused.{Refused}
+use Rattle.std.specs.Prelude.{Result}
 
 -- where the expressions start
 abbrev pub start : Sections → ℕ
@@ -92,7 +94,7 @@ sections_view s {sheet} {n} {k} r =
     )
 
 -- and good sections read
-after-section : (s bs : List ℕ) (at : ℕ) (first : Read) (f : List ℕ → ℕ → Reading Sheet) → first ≡ Got (at + 1 + length bs) (length bs)
+after-section : (s bs : List ℕ) (at : ℕ) (first : Result Got Refused) (f : List ℕ → ℕ → Reading Sheet) → first ≡ got_at (at + 1 + length bs) (length bs)
     → before s (at + 1 + length bs) (length bs) ≡ bs
     → on_read first refused (λ n k. f (before s n k) n) ≡ f bs (at + 1 + length bs)
 after-section s bs at first f e b = rw e (ap (λ x. f x (at + 1 + length bs)) b)

@@ -8,17 +8,17 @@ use Rattle.nuthatchbed.proofs.nuthatchbed_check.Goals as goal
 
 pub packed-requires : goal.packed-requires
 packed-requires c =
-    let within = (check_refusals _ (sym c.check.ensures ∙ c.in-Refused.is)).bounded in omega arith
+    let within = (check_refusals _ (sym c.in-Err.ensures)).bounded in omega arith
 
 pub overflow_cast-result : goal.overflow_cast-result
 overflow_cast-result c =
-    let few = (check_passed _ _ _ _ _ (sym c.check.ensures ∙ c.in-Passed.is)).few-cells in
+    let few = (check_passed _ c.in-Ok.counts (sym c.in-Ok.ensures)).few-cells in
     record { fits = omega arith }
 
-pub returns-in-Refused : goal.returns-in-Refused
-returns-in-Refused c =
+pub returns-in-Err : goal.returns-in-Err
+returns-in-Err c =
     c.packed.ensures
-    ∙ ap packed_checked (sym c.in-Refused.is ∙ c.check.ensures)
+    ∙ ap packed_checked (c.in-Err.ensures)
 
-pub returns-in-Passed : goal.returns-in-Passed
-returns-in-Passed c = ap packed_checked (sym c.in-Passed.is ∙ c.check.ensures)
+pub returns-in-Ok : goal.returns-in-Ok
+returns-in-Ok c = ap packed_checked (c.in-Ok.ensures)

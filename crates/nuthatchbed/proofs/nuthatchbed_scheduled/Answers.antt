@@ -9,12 +9,12 @@ pub packed-requires : goal.packed-requires
 packed-requires c =
     let within = (scheduled-refusals _ _ _ _ _ (sym c.instant.ensures.answers
     ∙ c.in-Refused.is)).bounded in
-    omega arith
+    rw c.at.ensures (omega arith)
 
 pub returns-in-Refused : goal.returns-in-Refused
 returns-in-Refused c = let ensured = c.instant.ensures in
     record {
-      value = c.packed.ensures ∙ ap packed_scheduled (sym c.in-Refused.is ∙ ensured.answers);
+      value = (rw c.at.ensures at c.packed.ensures) ∙ ap packed_scheduled (sym c.in-Refused.is ∙ ensured.answers);
       memory_after = ensured.stores;
       output_after = ensured.writes;
     }

@@ -7,19 +7,19 @@ use Rattle.nuthatchbed.proofs.nuthatchbed_start.Goals as goal
 
 pub packed-requires : goal.packed-requires
 packed-requires c =
-    let within = (start-refusals _ _ (sym c.start.ensures.value ∙ c.in-Refused.is)).bounded in
+    let within = (start-refusals _ _ (sym c.in-Err.ensures.value)).bounded in
     omega arith
 
-pub returns-in-Refused : goal.returns-in-Refused
-returns-in-Refused c = let ensured = c.start.ensures in
+pub returns-in-Err : goal.returns-in-Err
+returns-in-Err c = let ensured = c.in-Err.ensures in
     record {
-      value = c.packed.ensures ∙ ap packed_started (sym c.in-Refused.is ∙ ensured.value);
+      value = c.packed.ensures ∙ ap packed_started (ensured.value);
       memory_after = ensured.memory_after;
     }
 
-pub returns-in-Done : goal.returns-in-Done
-returns-in-Done c = let ensured = c.start.ensures in
+pub returns-in-Ok : goal.returns-in-Ok
+returns-in-Ok c = let ensured = c.in-Ok.ensures in
     record {
-      value = ap packed_started (sym c.in-Done.is ∙ ensured.value);
+      value = ap packed_started (ensured.value);
       memory_after = ensured.memory_after;
     }

@@ -8,7 +8,7 @@ use Rattle.probe.proofs.probe_schedule.Goals as goal
 pub packed-requires : goal.packed-requires
 packed-requires c =
     let within = maker_bounded _ _ (sym c.make.ensures.value ∙ c.in-Refused.is) in
-    omega arith
+    rw c.at.ensures (omega arith)
 
 pub overflow_cast-result : goal.overflow_cast-result
 overflow_cast-result c =
@@ -18,7 +18,7 @@ overflow_cast-result c =
 pub returns-in-Refused : goal.returns-in-Refused
 returns-in-Refused c = let ensured = c.make.ensures in
     record {
-      value = c.packed.ensures ∙ ap packed_made (sym c.in-Refused.is ∙ ensured.value);
+      value = (rw c.at.ensures at c.packed.ensures) ∙ ap packed_made (sym c.in-Refused.is ∙ ensured.value);
       list_after = ensured.list_after;
     }
 

@@ -6,34 +6,37 @@ use Rattle.sheet.specs.Data.{type_of_byte, is_kept}
 use Rattle.sheet.specs.Expressions.{is_kept_wire}
 use Rattle.sheet.specs.Outcomes.{refusal, result}
 use Rattle.sheet.specs.Readings.{Reading, refused, got}
-use Rattle.sheet.specs.Sheets.{Sheet, sheet_forms, expression_at, before, kept_count, read_wires, read_sheet, outcome_of, sheet_of, checked_of, check_of}
+use Rattle.sheet.specs.Sheets.{Sheet, sheet_forms, expression_at, before, kept_count, read_wires, read_sheet, outcome_of, sheet_of, counts_with, checked_of, check_of}
 use Rattle.sheet.specs.Laws.Headers.{SheetRead, sheet-view, section_good, section-length}
 use Rattle.sheet.specs.Laws.Lists.{never}
+use Rattle.sheet.specs.Laws.Outcomes.{refused-parts}
 use Rattle.sheet.proofs.Laws.Typing.{read-passed, read-counted, passed_check}
 use Rattle.sheet.proofs.Laws.Wires.{all-extent, wires-kept}
 use Rattle.sheet.specs.declared.Refusal.{Refusal}
 use Rattle.sheet.specs.declared.Refusal.TheVariants.{TypeByte}
-use Rattle.sheet.specs.declared.Checked.TheVariants.{Refused, Passed}
+use Rattle.sheet.specs.Outcomes.{refused_at}
+use Rattle.std.specs.Prelude.{Ok}
+use Rattle.sheet.specs.declared.Counts.{Counts}
 
-pub check_refused : (s : List ℕ) {why : Refusal} {place : ℕ} → check_of s ≡ Refused why place → sheet_of s ≡ refusal why place
+pub check_refused : (s : List ℕ) {why : Refusal} {place : ℕ} → check_of s ≡ refused_at why place → sheet_of s ≡ refusal why place
 unfolding sheet_of
 check_refused s {why} {place} = go (read_sheet s) refl
   where
-    go : (x : Reading Sheet) → read_sheet s ≡ x → checked_of x ≡ Refused why place → sheet_of s ≡ refusal why place
-    go (refused found at) q h = rw q (cc)
+    go : (x : Reading Sheet) → read_sheet s ≡ x → checked_of x ≡ refused_at why place → sheet_of s ≡ refusal why place
+    go (refused found at) q h = let (why-is, place_is) = refused-parts h in rw (q, why-is, place_is)
     go (got sheet next count) q h = never (cc)
 
 -- and towards the answer: the refusal, or the four counts
-pub refused-checked : (s : List ℕ) {why : Refusal} {place : ℕ} → sheet_of s ≡ refusal why place → check_of s ≡ Refused why place
+pub refused-checked : (s : List ℕ) {why : Refusal} {place : ℕ} → sheet_of s ≡ refusal why place → check_of s ≡ refused_at why place
 unfolding sheet_of
 refused-checked s {why} {place} = go (read_sheet s) refl
   where
-    go : (x : Reading Sheet) → read_sheet s ≡ x → outcome_of x ≡ refusal why place → check_of s ≡ Refused why place
+    go : (x : Reading Sheet) → read_sheet s ≡ x → outcome_of x ≡ refusal why place → check_of s ≡ refused_at why place
     go (refused found at) q h = rw q (cc)
     go (got sheet next count) q h = never (cc)
 
 pub passed-checked : (s : List ℕ) {sheet : Sheet} → sheet_of s ≡ result sheet
-    → check_of s ≡ Passed (length sheet.input_types) (length sheet.wire_types) (length sheet.outputs) (length (sheet_forms sheet))
+    → check_of s ≡ Ok (counts_with sheet (length (sheet_forms sheet)))
 passed-checked s e = let p = passed_check s e in rw (p.read, p.counted)
 
 -- a wire of a sheet that passes is kept just where its type byte says so: the types of the wires stand behind those of the inputs
@@ -74,27 +77,30 @@ pub record CheckPassed (s : List ℕ) (inputs wires outputs cells : ℕ) : Type 
   pub within : 1 + inputs ≤ length s
   pub types : map type_of_byte (take (1 + inputs - 1) (drop 1 s)) ≡ sheet.input_types
 
-pub check_passed : (s : List ℕ) (i w o k : ℕ) → check_of s ≡ Passed i w o k → CheckPassed s i w o k
+pub check_passed : (s : List ℕ) (counts : Counts) → check_of s ≡ Ok counts
+    → CheckPassed s counts.inputs counts.wires counts.outputs counts.cells
 unfolding sheet_of
-check_passed s i w o k = go (read_sheet s) refl
+check_passed s counts = go (read_sheet s) refl
   where
-    go : (x : Reading Sheet) → read_sheet s ≡ x → checked_of x ≡ Passed i w o k → CheckPassed s i w o k
+    go : (x : Reading Sheet) → read_sheet s ≡ x → checked_of x ≡ Ok counts
+        → CheckPassed s counts.inputs counts.wires counts.outputs counts.cells
     go (refused why place) q h = never (cc)
     go (got sheet next count) q h =
         let passed = read-passed s q in
-        let inputs : length sheet.input_types ≡ i = cc in
-        let wires : length sheet.wire_types ≡ w = cc in
-        let outputs : length sheet.outputs ≡ o = cc in
-        let same : count ≡ k = cc in
-        let cells : length (sheet_forms sheet) ≡ k = sym (read-counted s q) ∙ same in
+        let is : counts_with sheet count ≡ counts = cc in
+        let inputs : length sheet.input_types ≡ counts.inputs = ap (λ (x : Counts). x.inputs) is in
+        let wires : length sheet.wire_types ≡ counts.wires = ap (λ (x : Counts). x.wires) is in
+        let outputs : length sheet.outputs ≡ counts.outputs = ap (λ (x : Counts). x.outputs) is in
+        let same : count ≡ counts.cells = ap (λ (x : Counts). x.cells) is in
+        let cells : length (sheet_forms sheet) ≡ counts.cells = sym (read-counted s q) ∙ same in
         let view = rw same at (sheet-view s q) in
         let section = section_good s 0 0 17 2 false TypeByte view.inputs in
-        let counted : view.input_count ≡ i =
+        let counted : view.input_count ≡ counts.inputs =
         sym (section-length section) ∙ sym (length-map (before s view.inputs_end view.input_count) type_of_byte)
         ∙ sym (ap (λ (x : Sheet). length x.input_types) view.is) ∙ inputs in
         let start : view.inputs_end - view.input_count ≡ 1 = omega (arith, section.bytes.next) in
-        let long : 1 + i - 1 ≡ i = omega arith in
-        let bytes : before s view.inputs_end view.input_count ≡ take (1 + i - 1) (drop 1 s) = rw (start, counted, long) in
+        let long : 1 + counts.inputs - 1 ≡ counts.inputs = omega arith in
+        let bytes : before s view.inputs_end view.input_count ≡ take (1 + counts.inputs - 1) (drop 1 s) = rw (start, counted, long) in
         record {
           sheet = sheet;
           outcome = rw q;

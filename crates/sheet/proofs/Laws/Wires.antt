@@ -15,9 +15,9 @@ use Rattle.sheet.specs.Expressions.{Expression, kept, is_kept_wire, cell_count}
 use Rattle.sheet.specs.Kinds.{body_of, cells_of, operands_of, limit_of, names_unkept, found_of, meaning_of, kind_count}
 use Rattle.sheet.specs.Readings.{Reading, got, read_each, named_at, body_at, names_of, body_from, own_of, read_expression}
 use Rattle.sheet.specs.Sheets.{forms_of, expression_at, wire_tree, own_cells, kept_count, read_wire, read_wires}
-use Rattle.sheet.specs.Laws.Readings.{passed, granted, and_then-got, run-view, no-level, expression_view, expression_extent}
+use Rattle.sheet.specs.Laws.Readings.{got-next, passed, granted, and_then-got, run-view, no-level, expression_view, expression_extent}
 use Rattle.sheet.specs.Laws.Readings.{every-kind, ◌▸◌, end, ExpressionExtent, run-extent, forms_length}
-use Rattle.sheet.specs.declared.Read.TheVariants.{Got}
+use Rattle.sheet.specs.Readings.{got_at}
 
 -- a wire with this type byte that reads as e
 pub record WireRead (inputs wires s : List ℕ) (b at c : ℕ) (e : Expression) (n k : ℕ) : Type 0 where
@@ -151,8 +151,8 @@ module _ (inputs wires s : List ℕ) where
       ap (λ x. is_kept_wire (expression_at x (suc w))) v.trees ∙ wires-kept bs v.next v.count v.rest w (omega arith)
 
   -- own bytes behind fewer cells
-  own_sooner : (level t at c d : ℕ) {n k : ℕ} → c ≤ d → own_of inputs wires s level t at d ≡ Got n k
-      → own_of inputs wires s level t at c ≡ Got n (c + cells_of (get_or s at 0))
+  own_sooner : (level t at c d : ℕ) {n k : ℕ} → c ≤ d → own_of inputs wires s level t at d ≡ got_at n k
+      → own_of inputs wires s level t at c ≡ got_at n (c + cells_of (get_or s at 0))
   unfolding own_of body_from names_of
   own_sooner level t at c d {n} {k} l e =
       let kind = get_or s at 0 in
@@ -165,7 +165,7 @@ module _ (inputs wires s : List ℕ) where
       let Has-kept = passed (names_unkept wires kind (named_at s at)) _ _ _ has-name.1 in
       let has-type = granted (eqb (found_of inputs wires t kind (named_at s at)) t) _ _ _ Has-kept.1 in
       let room : c + cells_of kind ≤ 64 = omega (arith, ltb-false 64 (d + cells_of kind) has-cell.0) in
-      let next : n ≡ at + 1 + body_of kind = cc has-type.1 in
+      let next : n ≡ at + 1 + body_of kind = got-next has-type.1 in
       rw (has-byte.0, has-kind.0, has-level.0, le-ltb 64 (c + cells_of kind) room, has_body.0, has-name.0, Has-kept.0, has-type.0, next)
 
   pub expression_sooner : (level t at c d : ℕ) {e : Expression} {n k : ℕ} → c ≤ d

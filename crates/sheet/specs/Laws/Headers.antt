@@ -10,16 +10,19 @@ use Rattle.sheet.specs.Expressions.{Expression}
 use Rattle.sheet.specs.Readings.{got, on_read}
 use Rattle.sheet.specs.Headers.{field_of, bytes_of, section_of}
 use Rattle.sheet.specs.Sheets.{Sheet, before, read_wires, outputs_from, wires_from, read_sheet}
-use Rattle.sheet.specs.Laws.Readings.{not_good, passed, passed-reading, and_then-got, on_read-got}
+use Rattle.sheet.specs.Laws.Readings.{not_good, got-next, got-count, passed, passed-reading, and_then-got, on_read-got}
 use Rattle.sheet.specs.declared.Refusal.{Refusal}
 use Rattle.sheet.specs.declared.Refusal.TheVariants.{CountRange, TypeByte, OutputWire}
-use Rattle.sheet.specs.declared.Read.{Read}
-use Rattle.sheet.specs.declared.Read.TheVariants.{Refused, Got}
+use Rattle.sheet.specs.Outcomes.{refused_at}
+use Rattle.sheet.specs.Readings.{got_at}
+use Rattle.sheet.specs.declared.Got.{Got}
+use Rattle.sheet.specs.declared.Refused.{Refused}
+use Rattle.std.specs.Prelude.{Result, Ok, Err}
 
-on_read_good : (first : Read) (f : ℕ → ℕ → Read) {n k : ℕ} → on_read first Refused f ≡ Got n k
-    → (m : ℕ) × (j : ℕ) × (first ≡ Got m j) × (f m j ≡ Got n k)
-on_read_good (Refused why place) f e = not_good e
-on_read_good (Got m j) f e = (m, j, refl, e)
+on_read_good : (first : Result Got Refused) (f : ℕ → ℕ → Result Got Refused) {n k : ℕ} → on_read first refused_at f ≡ got_at n k
+    → (m : ℕ) × (j : ℕ) × (first ≡ got_at m j) × (f m j ≡ got_at n k)
+on_read_good (Err r) f e = not_good e
+on_read_good (Ok a) f e = (a.next, a.count, refl, e)
 
 pub got-parts : {A : Type 0} {a b : A} {n k m j : ℕ} → got a n k ≡ got b m j → (b ≡ a) × (m ≡ n) × (j ≡ k)
 got-parts e = (cc, cc, cc)
@@ -47,14 +50,14 @@ pub record SectionGood (s : List ℕ) (at fewest excess limit n k : ℕ) : Type 
   pub bytes : BytesGood s (at + 1) limit n k
 
 module _ (s : List ℕ) where
-  pub field_good : (at low limit : ℕ) (wrong : Refusal) {n b : ℕ} → field_of s at low limit wrong ≡ Got n b → FieldGood s at low limit n b
+  pub field_good : (at low limit : ℕ) (wrong : Refusal) {n b : ℕ} → field_of s at low limit wrong ≡ got_at n b → FieldGood s at low limit n b
   unfolding field_of
   field_good at low limit wrong {n} {b} e =
       let has-byte = passed (leb (length s) at) _ _ _ e in
       let above = passed (ltb (get_or s at 0) low) _ _ _ has-byte.1 in
       let under = passed (leb limit (get_or s at 0)) _ _ _ above.1 in
-      let next : n ≡ at + 1 = cc under.1 in
-      let byte : b ≡ get_or s at 0 = cc under.1 in
+      let next : n ≡ at + 1 = got-next under.1 in
+      let byte : b ≡ get_or s at 0 = got-count under.1 in
       record {
         here = leb-false _ _ has-byte.0;
         next = next;
@@ -64,12 +67,12 @@ module _ (s : List ℕ) where
       }
 
   module _ (limit : ℕ) (rising : Bool) (wrong : Refusal) (count : ℕ) where
-    bytes_good : (left at low : ℕ) {n k : ℕ} → at ≤ length s → bytes_of s left at low limit rising wrong count ≡ Got n k
+    bytes_good : (left at low : ℕ) {n k : ℕ} → at ≤ length s → bytes_of s left at low limit rising wrong count ≡ got_at n k
         → (k ≡ count) × BytesGood s at limit n left
     unfolding bytes_of
     bytes_good zero at low {n} {k} h e =
-        let next : n ≡ at = cc in
-        let same : k ≡ count = cc in
+        let next : n ≡ at = got-next e in
+        let same : k ≡ count = got-count e in
         (same, record { next = omega arith; within = omega arith; each = λ i l. absurd (omega arith) })
     bytes_good (suc left) at low {n} h e =
         let (m, b, first, rest) = on_read_good (field_of s at low limit wrong) _ e in
@@ -82,7 +85,7 @@ module _ (s : List ℕ) where
         each m b g r (suc i) l = let e : at + suc i ≡ m + i = omega arith in rw e (r.each i (omega arith))
 
   pub section_good : (at fewest excess limit : ℕ) (rising : Bool) (wrong : Refusal) {n k : ℕ}
-      → section_of s at fewest excess limit rising wrong ≡ Got n k → SectionGood s at fewest excess limit n k
+      → section_of s at fewest excess limit rising wrong ≡ got_at n k → SectionGood s at fewest excess limit n k
   unfolding section_of
   section_good at fewest excess limit rising wrong {n} {k} e =
       let (m, j, first, rest) = on_read_good (field_of s at fewest excess CountRange) _ e in
@@ -112,9 +115,9 @@ pub record SheetRead (s : List ℕ) (sheet : Sheet) (n k : ℕ) : Type 0 where
   pub expressions : List Expression
   pub some_byte : 1 ≤ length s
   pub few_bytes : length s ≤ 4096
-  pub inputs : section_of s 0 0 17 2 false TypeByte ≡ Got inputs_end input_count
-  pub wires : section_of s inputs_end 1 65 4 false TypeByte ≡ Got wires_end wire_count
-  pub outputs : section_of s wires_end 1 17 (length (before s wires_end wire_count)) true OutputWire ≡ Got outputs_end output_count
+  pub inputs : section_of s 0 0 17 2 false TypeByte ≡ got_at inputs_end input_count
+  pub wires : section_of s inputs_end 1 65 4 false TypeByte ≡ got_at wires_end wire_count
+  pub outputs : section_of s wires_end 1 17 (length (before s wires_end wire_count)) true OutputWire ≡ got_at outputs_end output_count
   pub each : read_wires (before s inputs_end input_count) (before s wires_end wire_count) s outputs_end ≡ got expressions n k
   pub nothing_left : length s ≤ n
   pub is : sheet ≡ record {

@@ -1,9 +1,17 @@
 -- What an outcome with a result tells: each check before it was passed.
 use Rattle.std.specs.Prelude.{◌≡◌, refl, ℕ, ◌<◌, Bool, true, false, cond, eqb, ltb}
-use Rattle.std.proofs.Common.{arith, eqb-true}
-use Rattle.sheet.specs.Outcomes.{Outcome, refusal, result, followed_by, lowest, unless_length, unless_any}
+use Rattle.std.proofs.Common.{ap, arith, eqb-true}
+use Rattle.sheet.specs.Outcomes.{Outcome, refusal, result, followed_by, lowest, unless_length, unless_any, refused_at}
+use Rattle.sheet.specs.declared.Refused.{Refused}
 use Rattle.sheet.specs.Laws.Lowest.{lowest-none}
 use Rattle.sheet.specs.declared.Refusal.{Refusal}
+
+-- the parts of a refusal that is answered
+pub refused-parts : {A : Type 0} {why found : Refusal} {place at : ℕ} → refused_at {A = A} found at ≡ refused_at why place
+    → (found ≡ why) × (at ≡ place)
+refused-parts {A} {why} {found} {place} {at} e =
+    let same : ◌≡◌ {A = Refused} (record { why = found; place = at }) (record { why = why; place = place }) = cc in
+    (ap (λ (r : Refused). r.why) same, ap (λ (r : Refused). r.place) same)
 
 module _ {A : Type 0} where
   pub no_result : {B : Type 0} {why : Refusal} {place : ℕ} {a : A} → refusal why place ≡ result a → B

@@ -15,26 +15,31 @@ use Rattle.sheet.specs.Readings.{names_of, body_from, own_of, read_expression}
 use Rattle.sheet.specs.Sheets.{forms_of}
 use Rattle.sheet.specs.Memory.{start_memory, own_cell}
 use Rattle.sheet.specs.declared.Refusal.{Refusal}
-use Rattle.sheet.specs.declared.Read.{Read}
-use Rattle.sheet.specs.declared.Read.TheVariants.{Refused, Got}
 use Rattle.sheet.specs.declared.Cell.{Cell}
+use Rattle.sheet.specs.Outcomes.{refused_at}
+use Rattle.sheet.specs.Readings.{got_at}
+use Rattle.sheet.specs.declared.Got.{Got}
+use Rattle.sheet.specs.declared.Refused.{Refused}
+use Rattle.std.specs.Prelude.{Result, Ok, Err}
 
 -- A reading that goes on after a part was good in that part.
-pub not_good : {A : Type 0} {why : Refusal} {place n k : ℕ} → Refused why place ≡ Got n k → A
+pub not_good : {A : Type 0} {why : Refusal} {place n k : ℕ} → refused_at why place ≡ got_at n k → A
 not_good e = absurd (let z : ◌≡◌ {A = ℕ} 0 1 = cc in omega arith)
 
 pub not-got : {A B : Type 0} {why : Refusal} {place n k : ℕ} {b : B} → refused why place ≡ got b n k → A
 not-got e = absurd (let z : ◌≡◌ {A = ℕ} 0 1 = cc in omega arith)
 
-got-next : {n k m j : ℕ} → Got m j ≡ Got n k → n ≡ m
-got-next e = cc
+pub got-next : {n k m j : ℕ} → got_at m j ≡ got_at n k → n ≡ m
+got-next {n} {k} {m} {j} e =
+    let same : ◌≡◌ {A = Got} (record { next = n; count = k }) (record { next = m; count = j }) = cc in ap (λ (a : Got). a.next) same
 
-got-count : {n k m j : ℕ} → Got m j ≡ Got n k → k ≡ j
-got-count e = cc
+pub got-count : {n k m j : ℕ} → got_at m j ≡ got_at n k → k ≡ j
+got-count {n} {k} {m} {j} e =
+    let same : ◌≡◌ {A = Got} (record { next = n; count = k }) (record { next = m; count = j }) = cc in ap (λ (a : Got). a.count) same
 
 -- the test failed to refuse, and the rest is good
-pub passed : (test : Bool) (why : Refusal) (place : ℕ) (rest : Read) {n k : ℕ} → cond test (Refused why place) rest ≡ Got n k
-    → (test ≡ false) × (rest ≡ Got n k)
+pub passed : (test : Bool) (why : Refusal) (place : ℕ) (rest : Result Got Refused) {n k : ℕ} → cond test (refused_at why place) rest ≡ got_at n k
+    → (test ≡ false) × (rest ≡ got_at n k)
 passed true why place rest e = not_good e
 passed false why place rest e = (refl, e)
 
@@ -44,8 +49,8 @@ passed-reading true why place rest e = not-got e
 passed-reading false why place rest e = (refl, e)
 
 -- the test passed, and what it passed on is good
-pub granted : (test : Bool) (why : Refusal) (place : ℕ) (rest : Read) {n k : ℕ} → cond test rest (Refused why place) ≡ Got n k
-    → (test ≡ true) × (rest ≡ Got n k)
+pub granted : (test : Bool) (why : Refusal) (place : ℕ) (rest : Result Got Refused) {n k : ℕ} → cond test rest (refused_at why place) ≡ got_at n k
+    → (test ≡ true) × (rest ≡ got_at n k)
 granted true why place rest e = (refl, e)
 granted false why place rest e = not_good e
 
@@ -54,10 +59,10 @@ pub and_then-got : {A B : Type 0} (first : Reading A) (f : A → ℕ → ℕ →
 and_then-got (refused why place) f e = not-got e
 and_then-got (got a m j) f e = (a, m, j, refl, e)
 
-pub on_read-got : {B : Type 0} (first : Read) (f : ℕ → ℕ → Reading B) {b : B} {n k : ℕ} → on_read first refused f ≡ got b n k
-    → (m : ℕ) × (j : ℕ) × (first ≡ Got m j) × (f m j ≡ got b n k)
-on_read-got (Refused why place) f e = not-got e
-on_read-got (Got m j) f e = (m, j, refl, e)
+pub on_read-got : {B : Type 0} (first : Result Got Refused) (f : ℕ → ℕ → Reading B) {b : B} {n k : ℕ} → on_read first refused f ≡ got b n k
+    → (m : ℕ) × (j : ℕ) × (first ≡ got_at m j) × (f m j ≡ got b n k)
+on_read-got (Err r) f e = not-got e
+on_read-got (Ok a) f e = (a.next, a.count, refl, e)
 
 -- what an expression's own bytes show where they are good: behind them stands n, and k cells were counted
 pub record OwnGood (inputs wires s : List ℕ) (level t at c n k : ℕ) : Type 0 where
@@ -77,7 +82,7 @@ pub record ExpressionRead (inputs wires s : List ℕ) (l t at c : ℕ) (e : Expr
   pub first : ℕ
   pub before : ℕ
   pub operands : List Expression
-  pub own : own_of inputs wires s (suc l) t at c ≡ Got first before
+  pub own : own_of inputs wires s (suc l) t at c ≡ got_at first before
   pub good : OwnGood inputs wires s (suc l) t at c first before
   pub each : read_each (read_expression inputs wires s l) (operands_of (get_or s at 0) t) first before ≡ got operands n k
   pub tree : e ≡ meaning_of (get_or s at 0) (type_of_byte t) (body_at s at) operands
@@ -102,7 +107,7 @@ run-view read t ts at c {es} {n} {k} e =
     record { head = head; tail = tail; next = next; count = count; first = first; rest = cc; trees = cc }
 
 module _ (inputs wires s : List ℕ) where
-  pub own_good : (level t at c : ℕ) {n k : ℕ} → own_of inputs wires s level t at c ≡ Got n k → OwnGood inputs wires s level t at c n k
+  pub own_good : (level t at c : ℕ) {n k : ℕ} → own_of inputs wires s level t at c ≡ got_at n k → OwnGood inputs wires s level t at c n k
   unfolding own_of body_from names_of
   own_good level t at c {n} {k} e =
       let kind = get_or s at 0 in

@@ -10,24 +10,26 @@ use borrow.Author.Tests.{leb-false, ltb-true, ltb-false}
 use Rattle.sheet.specs.Expressions.{Expression, CellForm}
 use Rattle.sheet.specs.Kinds.{body_of, cells_of, operands_of, limit_of, names_unkept, found_of, kind_count}
 use Rattle.sheet.specs.Data.{ValueType}
-use Rattle.sheet.specs.Memory.{invalid_at, memory_of, start_outcome, answer_of, start_call}
+use Rattle.sheet.specs.Memory.{invalid_at, memory_of, start_outcome, start_call}
 use Rattle.sheet.specs.Rows.{wrong_at, inputs_of}
-use Rattle.sheet.specs.Outcomes.{Outcome, refusal, result, followed_by, lowest, unless_length, unless_any, number_of}
+use Rattle.sheet.specs.Outcomes.{Outcome, refusal, result, followed_by, lowest, unless_length, unless_any, number_of, done_of}
 use Rattle.sheet.specs.Readings.{Reading, refused, got, and_then, on_read, read_each, named_at, names_of, body_from, own_of, read_expression}
 use Rattle.sheet.specs.Headers.{field_of, bytes_of, section_of}
 use Rattle.sheet.specs.Data.{plain_byte}
 use Rattle.sheet.specs.Sheets.{Sheet, sheet_forms, before, kept_count, read_wire, read_wires, outputs_from, wires_from, read_sheet, outcome_of, sheet_of}
 use Rattle.sheet.specs.Sheets.{checked_of, check_of}
 use Rattle.sheet.specs.Laws.Readings.{own_good}
+use Rattle.sheet.specs.Laws.Outcomes.{refused-parts}
 use Rattle.sheet.specs.declared.Refusal.{Refusal}
 use Rattle.sheet.specs.declared.Refusal.TheVariants.{SheetLength, Cut, CountRange, TypeByte, OutputWire}
 use Rattle.sheet.specs.declared.Refusal.TheVariants.{Kind, Body, Level, TypeAsked, CellLimit, LeftOver}
 use Rattle.sheet.specs.declared.Refusal.TheVariants.{MemoryLength, CellContent, InputLength, InputContent, OutputLength}
 use Rattle.sheet.specs.declared.Refusal.TheVariants.{ScheduleLength, ScheduleEntry, ScheduleOrder, StaysUnknown, NoSchedule, BoardFrame, JoinedLimit}
-use Rattle.sheet.specs.declared.Read.{Read}
-use Rattle.sheet.specs.declared.Read.TheVariants.{Refused, Got}
-use Rattle.sheet.specs.declared.Checked.TheVariants.{Refused as RefusedSheet}
-use Rattle.sheet.specs.declared.Started.TheVariants.{Refused as RefusedStart}
+use Rattle.sheet.specs.Outcomes.{refused_at}
+use Rattle.sheet.specs.Readings.{got_at}
+use Rattle.sheet.specs.declared.Got.{Got}
+use Rattle.sheet.specs.declared.Refused.{Refused}
+use Rattle.std.specs.Prelude.{Result, Ok, Err}
 
 -- a refusal with a number of at most `most`, at a place of at most n
 pub record Within (most n : ℕ) (why : Refusal) (place : ℕ) : Type 0 where
@@ -35,9 +37,9 @@ pub record Within (most n : ℕ) (why : Refusal) (place : ℕ) : Type 0 where
   pub bounded : place ≤ n
 
 -- where something is refused, it is with such a number and at such a place
-pub data ReadWithin (n : ℕ) : Read → Type 0 where
-  refused-within : {why : Refusal} {place : ℕ} → Within 11 n why place → ReadWithin n (Refused why place)
-  got-within : {next count : ℕ} → ReadWithin n (Got next count)
+pub data ReadWithin (n : ℕ) : Result Got Refused → Type 0 where
+  refused-within : {why : Refusal} {place : ℕ} → Within 11 n why place → ReadWithin n (refused_at why place)
+  got-within : {next count : ℕ} → ReadWithin n (got_at next count)
 
 pub data ReadingWithin {A : Type 0} (n : ℕ) : Reading A → Type 0 where
   refused-within : {why : Refusal} {place : ℕ} → Within 11 n why place → ReadingWithin n (refused why place)
@@ -53,10 +55,10 @@ by-test P true f g = f refl
 by-test P false f g = g refl
 
 module _ {A : Type 0} (n : ℕ) where
-  on-read-within : (x : Read) (f : ℕ → ℕ → Reading A) → ReadWithin n x → ((m j : ℕ) → x ≡ Got m j → ReadingWithin n (f m j))
+  on-read-within : (x : Result Got Refused) (f : ℕ → ℕ → Reading A) → ReadWithin n x → ((m j : ℕ) → x ≡ got_at m j → ReadingWithin n (f m j))
       → ReadingWithin n (on_read x refused f)
-  on-read-within (Refused why place) f (refused-within l) h = refused-within l
-  on-read-within (Got m j) f got-within h = h m j refl
+  on-read-within (Err r) f (refused-within l) h = refused-within l
+  on-read-within (Ok a) f got-within h = h a.next a.count refl
 
   and-then-within : {B : Type 0} (x : Reading B) (f : B → ℕ → ℕ → Reading A) → ReadingWithin n x
       → ((b : B) (m j : ℕ) → ReadingWithin n (f b m j)) → ReadingWithin n (and_then x f)
@@ -65,7 +67,7 @@ module _ {A : Type 0} (n : ℕ) where
 
 -- The header.
 module _ (s : List ℕ) where
-  refused-at : {why : Refusal} {place : ℕ} → number_of why ≤ 11 → place ≤ length s → ReadWithin (length s) (Refused why place)
+  refused-at : {why : Refusal} {place : ℕ} → number_of why ≤ 11 → place ≤ length s → ReadWithin (length s) (refused_at why place)
   refused-at few l = refused-within (record { number = few; bounded = l })
 
   field-within : (at low limit : ℕ) (wrong : Refusal) → number_of wrong ≤ 11 → ReadWithin (length s) (field_of s at low limit wrong)
@@ -76,10 +78,10 @@ module _ (s : List ℕ) where
       by-test (ReadWithin (length s)) (ltb (get_or s at 0) low) (λ f. refused-at few (omega arith)) (λ f.
       by-test (ReadWithin (length s)) (leb limit (get_or s at 0)) (λ g. refused-at few (omega arith)) (λ g. got-within)))
 
-  on-field-within : (x : Read) (f : ℕ → ℕ → Read) → ReadWithin (length s) x → ((m j : ℕ) → ReadWithin (length s) (f m j))
-      → ReadWithin (length s) (on_read x Refused f)
-  on-field-within (Refused why place) f (refused-within l) h = refused-within l
-  on-field-within (Got m j) f got-within h = h m j
+  on-field-within : (x : Result Got Refused) (f : ℕ → ℕ → Result Got Refused) → ReadWithin (length s) x → ((m j : ℕ) → ReadWithin (length s) (f m j))
+      → ReadWithin (length s) (on_read x refused_at f)
+  on-field-within (Err r) f (refused-within l) h = refused-within l
+  on-field-within (Ok a) f got-within h = h a.next a.count
 
   bytes-within : (n at low limit : ℕ) (rising : Bool) (wrong : Refusal) (count : ℕ) → number_of wrong ≤ 11
       → ReadWithin (length s) (bytes_of s n at low limit rising wrong count)
@@ -236,23 +238,23 @@ start-within s memory =
     length-within 12 MemoryLength (length memory) (5 * length (sheet_forms sheet)) _ (omega arith) result-within)
 
 -- the check refuses with 1 to 11
-pub check_refusals : (s : List ℕ) {why : Refusal} {place : ℕ} → check_of s ≡ RefusedSheet why place → Within 11 4096 why place
+pub check_refusals : (s : List ℕ) {why : Refusal} {place : ℕ} → check_of s ≡ refused_at why place → Within 11 4096 why place
 check_refusals s {why} {place} = go (read_sheet s) (sheet-within s)
   where
-    go : (x : Reading Sheet) → ReadingWithin 4096 x → checked_of x ≡ RefusedSheet why place → Within 11 4096 why place
+    go : (x : Reading Sheet) → ReadingWithin 4096 x → checked_of x ≡ refused_at why place → Within 11 4096 why place
     go (refused found at) (refused-within w) e =
-        let why-is : found ≡ why = cc in let place_is : at ≡ place = cc in rw (why-is, place_is) at w
+        let (why-is, place_is) = refused-parts e in rw (why-is, place_is) at w
     go (got sheet next count) got-within e = absurd (let z : ◌≡◌ {A = ℕ} 0 1 = cc in omega arith)
 
 -- the start refuses with 1 to 12
-pub start-refusals : (s memory : List ℕ) {why : Refusal} {place : ℕ} → (start_call s memory).answer ≡ RefusedStart why place
+pub start-refusals : (s memory : List ℕ) {why : Refusal} {place : ℕ} → (start_call s memory).answer ≡ refused_at why place
     → Within 12 4096 why place
 unfolding start_call
 start-refusals s memory {why} {place} = go (start_outcome s memory) (start-within s memory)
   where
-    go : (x : Outcome (List ℕ)) → OutcomeWithin 12 x → answer_of x ≡ RefusedStart why place → Within 12 4096 why place
+    go : (x : Outcome (List ℕ)) → OutcomeWithin 12 x → done_of x ≡ refused_at why place → Within 12 4096 why place
     go (refusal found at) (refusal-within w) e =
-        let why-is : found ≡ why = cc in let place_is : at ≡ place = cc in rw (why-is, place_is) at w
+        let (why-is, place_is) = refused-parts e in rw (why-is, place_is) at w
     go (result bytes) result-within e = absurd (let z : ◌≡◌ {A = ℕ} 0 1 = cc in omega arith)
 
 -- a number that is packed keeps number and place apart

@@ -3,9 +3,8 @@ use Rattle.std.proofs.Common.{ℕ, ◌<◌, ◌≤◌, ◌≡◌, sym, ap, ◌�
 use mathlib.Core.Bool.{not}
 use lib.ListN.{drop_of_length-le}
 use Rattle.sheet.specs.Kinds.{kind_count, count_of, operands_of}
-use Rattle.sheet.specs.Readings.{read_each, own_of, body_from, read_expression}
+use Rattle.sheet.specs.Readings.{got_at, read_each, own_of, body_from, read_expression}
 use Rattle.sheet.specs.Laws.Readings.{own_good, operands-counted}
-use Rattle.sheet.specs.declared.Read.{Read}
 use Rattle.sheet_names.specs.Naming.{ahead_in}
 use Rattle.sheet_own.specs.Own.{then_type}
 use Rattle.sheet_own.proofs.Nodes.{owner-cells}
@@ -16,26 +15,31 @@ use Rattle.sheet_expressions.proofs.Noting.{refused_checks, own-stops, extent, l
 use Rattle.sheet_expressions.proofs.Noting.{leaf-bare, bare_checks, last_checks}
 use Rattle.sheet_expressions.proofs.+checking.Goals as goal
 use Rattle.sheet_expressions.proofs.+checking.Goals.{check_one-then-kind-ge-LAST+else-kind-ge-COUNT+else-level-eq0+else-kind-eq-LAST, check_one-else-kind-ge-LAST}
+use Rattle.sheet.specs.declared.Got.{Got}
+use Rattle.sheet.specs.declared.Refused.{Refused}
+use Rattle.std.specs.Prelude.{refl, Result, Ok, Err}
+use Rattle.std.proofs.lemmas.Result.{err_from_is_err_and}
 
 -- what an expression's own bytes show
-node_is : (inputs wires s : List ℕ) (level t at c : ℕ) (answer : Read) → NodeAt s level t at c
+node_is : (inputs wires s : List ℕ) (level t at c : ℕ) (answer : Result Got Refused) → NodeAt s level t at c
     → then_type (get_or s at 0) t at answer ≡ body_from inputs wires s t at c
     → own_of inputs wires s level t at c ≡ then_type (get_or s at 0) t at answer
 node_is inputs wires s level t at c answer n e = own-passed inputs wires s t at c level n.byte n.kind.known n.levels ∙ sym e
 
-pub check_node-returns-in_default : goal.check_node-returns-in_default
-check_node-returns-in_default t c = λ l.
+pub check_node-returns-in_err-own : goal.check_node-returns-in_err-own
+check_node-returns-in_err-own t c = λ l.
     let a = c.args in
-    own-stops l.inputs l.wires a.sheet.now.now a.level a.asked a.at a.count c.in_default.is
-    (rw c.in_default.is at (node_is l.inputs l.wires a.sheet.now.now a.level a.asked a.at a.count _ c.requires.1
-    (c.check_own-own.ensures l.inputs l.wires a.asked)))
+    let p = err_from_is_err_and c.from_residual.result c.from_residual.ensures.1 in
+    own-stops l.inputs l.wires a.sheet.now.now a.level a.asked a.at a.count (rw (p.1, p.2))
+    (node_is l.inputs l.wires a.sheet.now.now a.level a.asked a.at a.count (Err c.in_err-own.field-0.0) c.requires.1
+    (c.in_err-own.ensures l.inputs l.wires a.asked))
 
 pub check_node-returns-then-not-fits : goal.check_node-returns-then-not-fits
 check_node-returns-then-not-fits t c = λ l.
     let a = c.args in
-    own-stops l.inputs l.wires a.sheet.now.now a.level a.asked a.at a.count c.refused.ensures
-    (rw c.in-Got.is at (node_is l.inputs l.wires a.sheet.now.now a.level a.asked a.at a.count _ c.requires.1
-    (c.check_own-own.ensures l.inputs l.wires a.asked))
+    own-stops l.inputs l.wires a.sheet.now.now a.level a.asked a.at a.count (ap Err c.at.ensures)
+    (node_is l.inputs l.wires a.sheet.now.now a.level a.asked a.at a.count (Ok c.in_ok-own.own) c.requires.1
+    (c.in_ok-own.ensures l.inputs l.wires a.asked)
     ∙ type_wrong (get_or a.sheet.now.now a.at 0) a.asked a.at _ _ c.fits.ensures (ap not c.if-not-fits.true))
 
 pub check_node-note_own-requires : goal.check_node-note_own-requires
@@ -43,8 +47,8 @@ check_node-note_own-requires t c =
     let n = c.requires.1 in
     let l = c.requires.0 in
     let a = c.args in
-    let own = rw c.in-Got.is at (node_is l.inputs l.wires a.sheet.now.now a.level a.asked a.at a.count _ n
-    (c.check_own-own.ensures l.inputs l.wires a.asked))
+    let own = node_is l.inputs l.wires a.sheet.now.now a.level a.asked a.at a.count (Ok c.in_ok-own.own) n
+    (c.in_ok-own.ensures l.inputs l.wires a.asked)
     ∙ type-right (get_or a.sheet.now.now a.at 0) a.asked a.at _ _ c.fits.ensures (ap not c.if-not-fits.false) in
     let g = own_good l.inputs l.wires a.sheet.now.now a.level a.asked a.at a.count own in
     (n.kind, n.asked, omega (arith, n.byte, n.few), λ e. omega (arith, g.cells, owner-cells _ e n.kind))
@@ -54,8 +58,8 @@ check_node-check_operands-requires t c =
     let n = c.requires.1 in
     let l = c.requires.0 in
     let a = c.args in
-    let own = rw c.in-Got.is at (node_is l.inputs l.wires a.sheet.now.now a.level a.asked a.at a.count _ n
-    (c.check_own-own.ensures l.inputs l.wires a.asked))
+    let own = node_is l.inputs l.wires a.sheet.now.now a.level a.asked a.at a.count (Ok c.in_ok-own.own) n
+    (c.in_ok-own.ensures l.inputs l.wires a.asked)
     ∙ type-right (get_or a.sheet.now.now a.at 0) a.asked a.at _ _ c.fits.ensures (ap not c.if-not-fits.false) in
     let g = own_good l.inputs l.wires a.sheet.now.now a.level a.asked a.at a.count own in (
       omega (arith, n.levels),
@@ -73,8 +77,8 @@ pub check_node-returns : goal.check_node-returns
 check_node-returns t c = λ l.
     let a = c.args in
     let n = c.requires.1 in
-    let own = rw c.in-Got.is at (node_is l.inputs l.wires a.sheet.now.now a.level a.asked a.at a.count _ n
-    (c.check_own-own.ensures l.inputs l.wires a.asked))
+    let own = node_is l.inputs l.wires a.sheet.now.now a.level a.asked a.at a.count (Ok c.in_ok-own.own) n
+    (c.in_ok-own.ensures l.inputs l.wires a.asked)
     ∙ type-right (get_or a.sheet.now.now a.at 0) a.asked a.at _ _ c.fits.ensures (ap not c.if-not-fits.false) in
     whole_checks l.inputs l.wires a.sheet.now.now (ahead_in a.names.now) a.level a.asked a.at a.count n.asked
     n.few c.requires.2 n.kind.no-leaf own
@@ -84,19 +88,19 @@ check_node-returns t c = λ l.
 pub check_one-returns-then-sheet-at : goal.check_one-returns-then-sheet-at
 check_one-returns-then-sheet-at t c = λ l.
     let a = c.args in
-    own-stops l.inputs l.wires a.sheet.now.now a.level a.asked a.at a.count c.refused.ensures
+    own-stops l.inputs l.wires a.sheet.now.now a.level a.asked a.at a.count (ap Err c.at.ensures)
     (own-missing l.inputs l.wires a.sheet.now.now a.asked a.at a.count a.level c.if-sheet-at.true)
 
 pub check_one-returns-then-kind-ge-COUNT : goal.check_one-returns-then-kind-ge-COUNT
 check_one-returns-then-kind-ge-COUNT t c = λ l.
     let a = c.args in
-    own-stops l.inputs l.wires a.sheet.now.now a.level a.asked a.at a.count c.refused-then-kind-ge-COUNT.ensures
+    own-stops l.inputs l.wires a.sheet.now.now a.level a.asked a.at a.count (ap Err c.at-then-kind-ge-COUNT.ensures)
     (own-unknown l.inputs l.wires a.sheet.now.now a.asked a.at a.count a.level c.if-sheet-at.false c.if-kind-ge-COUNT.true)
 
 pub check_one-returns-then-level-eq0 : goal.check_one-returns-then-level-eq0
 check_one-returns-then-level-eq0 t c = λ l.
     let a = c.args in
-    own-stops l.inputs l.wires a.sheet.now.now a.level a.asked a.at a.count c.refused-then-level-eq0.ensures
+    own-stops l.inputs l.wires a.sheet.now.now a.level a.asked a.at a.count (ap Err c.at-then-level-eq0.ensures)
     (own-deep l.inputs l.wires a.sheet.now.now a.asked a.at a.count a.level c.if-sheet-at.false c.if-kind-ge-COUNT.false
     c.if-level-eq0.true)
 
@@ -114,7 +118,7 @@ check_one-returns-then-level-eq0-2 t c = λ l.
       | check_one-then-kind-ge-LAST+else-kind-ge-COUNT+else-level-eq0+else-kind-eq-LAST w ↦ w.if-kind-ge-COUNT.false
       | check_one-else-kind-ge-LAST w ↦ omega arith
     ] in
-    own-stops l.inputs l.wires a.sheet.now.now a.level a.asked a.at a.count c.refused-then-level-eq0-2.ensures
+    own-stops l.inputs l.wires a.sheet.now.now a.level a.asked a.at a.count (ap Err c.at-then-level-eq0-2.ensures)
     (own-deep l.inputs l.wires a.sheet.now.now a.asked a.at a.count a.level c.if-sheet-at.false known c.if-level-eq0-2.true)
 
 pub check_one-returns-then-kind-lt4 : goal.check_one-returns-then-kind-lt4
@@ -129,39 +133,37 @@ check_operand-returns t c = λ l.
     bare_checks l.inputs l.wires a.sheet.now.now a.level a.asked a.at a.count
     (omega (arith, c.if-level-eq0.false)) c.if-sheet-at.false (leaf-bare _ c.if-sheet-at-ge4.false) (c.check_leaf.ensures l)
 
-pub check_operands-returns-in_default : goal.check_operands-returns-in_default
-check_operands-returns-in_default t c = λ l.
+pub check_operands-returns-in_err-one : goal.check_operands-returns-in_err-one
+check_operands-returns-in_err-one t c = λ l.
     let a = c.args in
     let o = c.loop-i in
-    let e = c.in_default.is in
+    let p = err_from_is_err_and c.from_residual.result c.from_residual.ensures.1 in
     let here : o.i < count_of a.kind = omega (arith, c.operands-operands.ensures, c.loop-i-test.true) in
     let is : c.operand_type-asked_here.result ≡ get_or (operands_of a.kind a.asked) o.i 0
     = c.operand_type-asked_here.ensures ∙ c.operand_types-types.ensures o.i here in
     let more : o.i < length (operands_of a.kind a.asked) = omega (arith, operands-counted a.asked a.kind c.requires.1) in
     let read = read_expression l.inputs l.wires a.sheet.now.now a.level in
-    let one = rw is at (c.check_operand-one.ensures l) in
-    let refused = e
-    ∙ each-refused read (operands_of a.kind a.asked) o.i o.next o.behind more (sym one.answers ∙ e)
-    ∙ (o.invariant.3 l).0 in
-    rw e (refused_checks (sym e ∙ refused))
+    let one = rw is at (c.in_err-one.ensures l) in
+    rw (p.1, p.2) (refused_checks (each-refused read (operands_of a.kind a.asked) o.i o.next o.behind more (sym one.answers)
+    ∙ (o.invariant.3 l).0))
 
 pub check_operands-loop-i-preserved : goal.check_operands-loop-i-preserved
 check_operands-loop-i-preserved t c =
     let a = c.args in
     let o = c.loop-i in
-    let got-it = c.in-Got.is in
+    let got-it : Ok c.in_ok-one.one ≡ got_at c.in_ok-one.one.next c.in_ok-one.one.count = refl in
     let here : o.i < count_of a.kind = omega (arith, c.operands-operands.ensures, c.loop-i-test.true) in
     let is : c.operand_type-asked_here.result ≡ get_or (operands_of a.kind a.asked) o.i 0
     = c.operand_type-asked_here.ensures ∙ c.operand_types-types.ensures o.i here in
     let more : o.i < length (operands_of a.kind a.asked) = omega (arith, operands-counted a.asked a.kind c.requires.1) in
     let l = c.requires.0 in
-    let read_one = extent l.inputs l.wires a.sheet.now.now a.level _ o.next o.behind (c.check_operand-one.ensures l) got-it in (
+    let read_one = extent l.inputs l.wires a.sheet.now.now a.level _ o.next o.behind (c.in_ok-one.ensures l) got-it in (
       omega arith,
       read_one.1.limited,
       omega (arith, read_one.1.counted, o.invariant.2),
       λ l.
           let read = read_expression l.inputs l.wires a.sheet.now.now a.level in
-          let one = rw is at (c.check_operand-one.ensures l) in (
+          let one = rw is at (c.in_ok-one.ensures l) in (
             each_good read (operands_of a.kind a.asked) o.i o.next o.behind more (sym one.answers ∙ got-it)
                 ∙ (o.invariant.3 l).0,
             λ es n k r. rw c.either.ensures (left_step l.inputs l.wires a.sheet.now.now a.level

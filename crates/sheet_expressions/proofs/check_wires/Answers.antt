@@ -5,7 +5,9 @@ use mathlib.Core.Path.{◌≡◌, refl, sym, ◌∙◌}
 use mathlib.Core.List.{List}
 use native.Mathlib.Omega.{arith}
 use lib.ListN.{length, get_or, drop, length-set, drop_of_length-le}
-use Rattle.sheet.specs.Readings.{read_each}
+use Rattle.sheet.specs.Readings.{got_at, read_each}
+use Rattle.std.specs.Prelude.{Ok}
+use Rattle.std.proofs.lemmas.Result.{err_from_is_err_and}
 use Rattle.sheet.specs.Sheets.{kept_count, own_cells, read_wire, read_wires}
 use Rattle.sheet.proofs.Laws.Wires.{kept-few}
 use Rattle.sheet_names.specs.Naming.{Naming}
@@ -74,8 +76,8 @@ pub bounds-firsts-w : goal.bounds-firsts-w
 bounds-firsts-w c =
     omega (arith, c.requires.wires_lookup.1.few)
 
-pub check_whole-one-requires : goal.check_whole-one-requires
-check_whole-one-requires c =
+pub check_whole-requires : goal.check_whole-requires
+check_whole-requires c =
     let noted = c in
     let start = c in
     let p = start.requires.wires_lookup in
@@ -87,19 +89,19 @@ check_whole-one-requires c =
       (later c.args.types.now c.loop-w-test.true c.loop-w.invariant.6 c.loop-w.invariant.7 c.note_kept.ensures.ahead).1,
     )
 
-pub returns-in_default : goal.returns-in_default
-returns-in_default c = λ l.
+pub returns-in_err-one : goal.returns-in_err-one
+returns-in_err-one c = λ l.
     let noted = c in
     let turn = c in
     let a = turn.args in
     let o = turn.loop-w in
-    let e = c.in_default.is in
-    let one = c.check_whole-one.ensures (lookup (noted.note_kept.ensures.naming _ _ (o.invariant.8 _ l.naming))) in
-    let refused = e ∙ each-refused (read_wire l.inputs a.types.now a.sheet.now.now) a.types.now o.w o.next
+    let p = err_from_is_err_and c.from_residual.result c.from_residual.ensures.1 in
+    let one = c.in_err-one.ensures (lookup (noted.note_kept.ensures.naming _ _ (o.invariant.8 _ l.naming))) in
+    let refused = each-refused (read_wire l.inputs a.types.now a.sheet.now.now) a.types.now o.w o.next
     o.count turn.loop-w-test.true
-    (sym (wire-erased l.inputs a.types.now a.sheet.now.now _ o.next o.count) ∙ sym one.answers ∙ e)
+    (sym (wire-erased l.inputs a.types.now a.sheet.now.now _ o.next o.count) ∙ sym one.answers)
     ∙ (o.invariant.9 l).0 in
-    record { answers = refused; drawn = run-refused (sym e ∙ refused) }
+    rw (p.1, p.2) (record { answers = refused; drawn = run-refused refused })
 
 pub bounds-reads-w : goal.bounds-reads-w
 bounds-reads-w c =
@@ -115,12 +117,12 @@ loop-w-preserved c =
     let p = start.requires.wires_lookup in
     let o = turn.loop-w in
     let more = turn.loop-w-test.true in
-    let e = c.in-Got.is in
+    let e : Ok c.in_ok-one.one ≡ got_at c.in_ok-one.one.next c.in_ok-one.one.count = refl in
     let ahead = c.ahead.ensures in
     let naming : (inputs : List ℕ) → Naming inputs a.types.now a.names.now → Naming inputs a.types.now _ =
     λ inputs n. noted.note_kept.ensures.naming inputs a.types.now (o.invariant.8 inputs n) in
     let behind = (extent p.0.inputs a.types.now a.sheet.now.now 16 _ o.next o.count
-    (c.check_whole-one.ensures (lookup (naming _ p.0.naming))) e).1 in
+    (c.in_ok-one.ensures (lookup (naming _ p.0.naming))) e).1 in
     let few = p.1.few in (
       omega arith,
       behind.within,
@@ -131,7 +133,7 @@ loop-w-preserved c =
       (later c.args.types.now c.loop-w-test.true c.loop-w.invariant.6 c.loop-w.invariant.7 c.note_kept.ensures.ahead).0,
       omega (arith, (later c.args.types.now c.loop-w-test.true c.loop-w.invariant.6 c.loop-w.invariant.7 c.note_kept.ensures.ahead).1, behind.counted),
       naming,
-      λ l. let one = c.check_whole-one.ensures (lookup (naming _ l.naming)) in (
+      λ l. let one = c.in_ok-one.ensures (lookup (naming _ l.naming)) in (
         each_good (read_wire l.inputs a.types.now a.sheet.now.now) a.types.now o.w o.next o.count more
             (sym (wire-erased l.inputs a.types.now a.sheet.now.now _ o.next o.count) ∙ sym one.answers ∙ e)
             ∙ (o.invariant.9 l).0,

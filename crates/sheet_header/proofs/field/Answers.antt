@@ -6,18 +6,18 @@ use Rattle.sheet_header.proofs.field.Goals as goal
 
 pub returns-then-sheet-at : goal.returns-then-sheet-at
 unfolding field_of
-returns-then-sheet-at c = simp (le-leb _ _ c.if-sheet-at.true)
+returns-then-sheet-at c = simp (c.at.ensures, le-leb _ _ c.if-sheet-at.true)
 
 pub overflow_cast-byte : goal.overflow_cast-byte
 overflow_cast-byte c = omega (arith, c.shared_slice_known-1.given c.args.at)
 
 pub returns-then-byte-low : goal.returns-then-byte-low
 unfolding field_of
-returns-then-byte-low c = simp (lt-leb _ _ c.if-sheet-at.false, lt-ltb _ _ c.if-byte-low.true)
+returns-then-byte-low c = simp (c.at-then-byte-low.ensures, lt-leb _ _ c.if-sheet-at.false, lt-ltb _ _ c.if-byte-low.true)
 
 pub returns-then-limit-byte : goal.returns-then-limit-byte
 unfolding field_of
-returns-then-limit-byte c = simp (lt-leb _ _ c.if-sheet-at.false, le-ltb _ _ c.if-byte-low.false, le-leb _ _ c.if-limit-byte.true)
+returns-then-limit-byte c = simp (c.at-then-limit-byte.ensures, lt-leb _ _ c.if-sheet-at.false, le-ltb _ _ c.if-byte-low.false, le-leb _ _ c.if-limit-byte.true)
 
 pub returns : goal.returns
 unfolding field_of

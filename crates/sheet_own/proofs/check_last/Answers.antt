@@ -2,6 +2,7 @@
 use Prim.Native.Nat.{◌+◌}
 use mathlib.Core.Bool.{not}
 use mathlib.Core.Path.{sym, ap, ◌∙◌}
+use Rattle.std.specs.Prelude.{Err}
 use native.Mathlib.Omega.{arith}
 use Rattle.sheet_own.proofs.Last.{last-cut, last_unkept, last-other, last_good}
 use Rattle.sheet_own.proofs.check_last.Goals as goal
@@ -11,7 +12,7 @@ returns-then-sheet-at-le1 c l =
     let start = c in
     let a = start.args in
     let p = start.requires in
-    c.refused.ensures
+    ap Err c.at.ensures
     ∙ last-cut l.inputs l.wires a.names.now a.sheet.now a.asked a.at a.count l.naming p.2 p.3 p.4
     (omega (arith, c.shared_slice_known-1.given (a.at + 1))) (omega (arith, c.if-sheet-at-le1.true))
 
@@ -20,7 +21,7 @@ returns-then-not-is_kept c l =
     let start = c in
     let a = start.args in
     let p = start.requires in
-    c.refused-then-not-is_kept.ensures
+    ap Err c.at-then-not-is_kept.ensures
     ∙ last_unkept l.inputs l.wires a.names.now a.sheet.now a.asked a.at a.count l.naming p.2 p.3 p.4
     (omega (arith, c.shared_slice_known-1.given (a.at + 1)))
     (omega (arith, c.if-sheet-at-le1.false)) c.is_kept.ensures (ap not c.if-not-is_kept.true)
@@ -30,7 +31,7 @@ returns-then-type_of-asked c l =
     let start = c in
     let a = start.args in
     let p = start.requires in
-    c.refused-then-type_of-asked.ensures
+    ap Err c.at-then-type_of-asked.ensures
     ∙ last-other l.inputs l.wires a.names.now a.sheet.now a.asked a.at a.count l.naming p.2 p.3 p.4
     (omega (arith, c.shared_slice_known-1.given (a.at + 1)))
     (omega (arith, c.if-sheet-at-le1.false))

@@ -1,6 +1,7 @@
 -- `check_leaf` meets its contract: the tests of a leaf's own bytes, looked up by its kind.
 use Prim.Native.Nat.{◌+◌}
-use mathlib.Core.Path.{sym, ◌∙◌}
+use mathlib.Core.Path.{sym, ap, ◌∙◌}
+use Rattle.std.specs.Prelude.{Err}
 use native.Mathlib.Omega.{arith}
 use Rattle.sheet_own.proofs.Nodes.{leaf-long, leaf-refused, leaf-cut, leaf_wrong, leaf-other, leaf_good, wire-below, joins-named}
 use Rattle.sheet_own.proofs.check_leaf.Goals as goal
@@ -14,7 +15,7 @@ returns-then-sheet-at c l =
     p.1 p.2 p.3 p.4
     (omega (arith, c.shared_slice_known-1.given (a.at + 1)))
     (omega (arith, c.body-body.ensures, c.if-sheet-at.true)))
-    c.refused.ensures
+    (ap Err c.at.ensures)
 
 pub bounds-sheet-at-2 : goal.bounds-sheet-at-2
 bounds-sheet-at-2 c =
@@ -33,7 +34,7 @@ returns-then-limit-named c l =
     (omega (arith, c.shared_slice_known-1.given (a.at + 1)))
     (omega (arith, c.body-body.ensures, c.if-sheet-at.false))
     (omega (arith, c.limit.ensures, c.if-limit-named.true)))
-    c.refused-then-limit-named.ensures
+    (ap Err c.at-then-limit-named.ensures)
 
 pub returns-then-type_of-asked : goal.returns-then-type_of-asked
 returns-then-type_of-asked c l =
@@ -50,7 +51,7 @@ returns-then-type_of-asked c l =
     ))
     (omega (arith, c.limit.ensures, c.if-limit-named.false))
     (λ e. c.if-type_of-asked.true (c.type_of.ensures ∙ e)))
-    c.refused-then-type_of-asked.ensures
+    (ap Err c.at-then-type_of-asked.ensures)
 
 pub with_named-grown-requires : goal.with_named-grown-requires
 with_named-grown-requires c =

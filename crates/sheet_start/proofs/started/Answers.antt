@@ -2,4 +2,4 @@
 use Rattle.sheet_start.proofs.started.Goals as goal
 
 pub returns : goal.returns
-returns c = rw c.if-filled.false
+returns c = rw (c.at.ensures, c.if-filled.false)

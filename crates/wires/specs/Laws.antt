@@ -104,6 +104,20 @@ tally-equal f g (suc n) h e k l =
     go false true i s m = absurd (omega arith)
     go false false i s m = (omega arith, refl)
 
+-- with a number below n taken out, fewer are counted
+pub tally-taken : (f g : ℕ → Bool) (n w : ℕ) → w < n → f w ≡ true → ((k : ℕ) → g k ≡ (f k && not (eqb k w))) → tally g n < tally f n
+tally-taken f g n w l here taken =
+    lt_of_not-le (λ (m : tally f n ≤ tally g n).
+    let same = tally-equal g f n inner (omega (arith, tally-grows g f n inner, m)) w l in
+    true≢false (sym here ∙ sym same ∙ taken w ∙ rw (eq-eqb w w refl) (and-false (f w))))
+  where
+    inner : (k : ℕ) → k < n → g k ≡ true → f k ≡ true
+    inner k j e = go (f k) refl
+      where
+        go : (t : Bool) → f k ≡ t → f k ≡ true
+        go true i = i
+        go false i = absurd (true≢false (sym e ∙ taken k ∙ rw i refl))
+
 -- where all below n are in, the count below n is n
 pub all-full : (f : ℕ → Bool) (n : ℕ) → ((k : ℕ) → k < n → f k ≡ true) → tally f n ≡ n
 unfolding tally

@@ -3,7 +3,8 @@
 #![tactic(auto)]
 
 ghost use Rattle.std.specs.Prelude.{◌≡◌, ℕ, ◌≤◌, ◌<◌, ◌&&◌, ◌||◌, not, false, eqb, ltb};
-ghost use Rattle.wires.specs.Sets.{member, tally, LowestPresent, EndsAt, TestsWithin};
+ghost use Rattle.std.specs.Iterator.{at_most};
+ghost use Rattle.wires.specs.Sets.{member, tally, LowestPresent, EndsAt, TestsWithin, TakesLowest, TakesHighest};
 
 // A set of wires, each below 64.
 #[derive(Clone, Copy)]
@@ -113,5 +114,56 @@ impl Wires {
         ensures { EndsAt (member self.bits) 64 result }
     {
         64 - u64::leading_zeros(self.bits)
+    }
+}
+
+// The wires of a set that a loop over it has still to come to: each once, the lowest first, or from the other end the highest first.
+#[derive(Drop)]
+pub struct Members {
+    pub left: Wires,
+}
+
+impl Iterator for Members {
+    type Item = usize;
+
+    ghost next_gives = { λ s r t. TakesLowest s.left.bits r t.left.bits };
+
+    ghost remaining = { λ s. at_most (tally (member s.left.bits) 64) };
+
+    // The lowest wire that is left, which is taken out.
+    fn next(&mut self) -> Option<usize> {
+        let wire = self.left.lowest() as usize;
+        if wire == 64 {
+            return None;
+        }
+        self.left = self.left.without(wire);
+        Some(wire)
+    }
+}
+
+impl DoubleEndedIterator for Members {
+    ghost next_back_gives = { λ s r t. TakesHighest s.left.bits r t.left.bits };
+
+    // The highest wire that is left, which is taken out.
+    fn next_back(&mut self) -> Option<usize> {
+        let end = self.left.end() as usize;
+        if end == 0 {
+            return None;
+        }
+        self.left = self.left.without(end - 1);
+        Some(end - 1)
+    }
+}
+
+// A set is walked by a `for`.
+impl IntoIterator for Wires {
+    type Item = usize;
+
+    type IntoIter = Members;
+
+    ghost into_iter_gives = { λ s r. r.left ≡ s };
+
+    fn into_iter(self) -> Members {
+        Members { left: self }
     }
 }

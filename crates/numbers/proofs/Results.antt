@@ -1,9 +1,8 @@
--- Sums and differences of 32-bit numbers fit 64 bits, and all opposites but one fit 32.
+-- Sums, differences and opposites of 32-bit numbers fit 64 bits.
 use Prim.Native.Nat.{ℕ, zero, suc, ◌-◌, ◌<◌}
 use mathlib.Core.Path.{◌≡◌, refl, ◌∙◌}
 use mathlib.Core.Bool.{Bool, true, false, cond}
 use native.Mathlib.Omega.{arith}
-use lib.Arith.{lt_of_le-ne}
 use lib.Dec.{ltb}
 use lib.IntN.{ℤ, pos, negsuc, neg_ℤ, ◌+ℤ◌, ◌-ℤ◌}
 use mir.Syntax.{w32, w64}
@@ -37,12 +36,7 @@ widens f = rw (to_z-of_z f) (sfits_widen tt f)
 pub widened : {z : ℤ} → SFits w32 z → to_z w64 (of_z w64 (to_z w32 (of_z w32 z))) ≡ z
 widened f = to_z-of_z {w = w64} (widens f) ∙ to_z-of_z f
 
--- the opposite of every number but the least one fits; the least number's does not
-pub opposite-fits : (a : ℤ) → SFits w32 a → (of_z w32 a ≡ 2147483648 → ⊥) → SFits w32 (neg_ℤ a)
-opposite-fits (pos zero) f e = record { sfits = omega arith }
-opposite-fits (pos (suc n)) f e = record { sfits = omega (arith, f.sfits) }
-opposite-fits (negsuc n) f e = record { sfits = lt_of_le-ne f.sfits (λ (q : suc n ≡ 2147483648). e (omega (arith, q))) }
-
-pub opposite-of-least : (a : ℤ) → SFits w32 a → of_z w32 a ≡ 2147483648 → neg_ℤ a ≡ pos 2147483648
-opposite-of-least (pos n) f e = absurd (omega (arith, f.sfits))
-opposite-of-least (negsuc n) f e = let d : n ≡ 2147483647 = omega (arith, f.sfits) in rw d
+pub opposite_fits : (a : ℤ) → SFits w32 a → SFits w64 (neg_ℤ a)
+opposite_fits (pos zero) f = record { sfits = omega arith }
+opposite_fits (pos (suc n)) f = record { sfits = omega (arith, f.sfits) }
+opposite_fits (negsuc n) f = record { sfits = omega (arith, f.sfits) }

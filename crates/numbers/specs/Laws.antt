@@ -1,7 +1,8 @@
 -- What holds of the numbers and of their words: the test of equality passes on the same numbers only, and a word that was stored is
 -- read back.
-use Rattle.std.specs.Prelude.{ℕ, zero, suc, ◌+◌, ◌/◌, ◌%◌, ◌≤◌, ◌<◌, ◌≡◌, refl, true, List, [], ◌∷◌, ◌++◌, ℤ, pos, negsuc, length, get_or, set, drop}
-use Rattle.std.proofs.Common.{ap, ◌∙◌, append-nil, arith, add-zero, add-suc, suc-add, length-set, drop_of_length-le, get_or-set_same, get_or-set_other, eqb-true, eq-eqb}
+use Rattle.std.specs.Prelude.{ℕ, zero, suc, ◌+◌, ◌-◌, ◌/◌, ◌%◌, ◌≤◌, ◌<◌, ◌≡◌, refl, true, List, [], ◌∷◌, ◌++◌, ℤ, pos, negsuc, length, get_or, set, take, drop}
+use Rattle.std.proofs.Common.{sym, ap, ◌∙◌, append-nil, arith, add-zero, add-suc, suc-add, length-set, drop_of_length-le, drop-drop, append_assoc, get_or-set_same, get_or-set_other, eqb-true, eq-eqb}
+use borrow.Rule.Slice.PartMut.{put_mid}
 use Rattle.std.proofs.lemmas.List.Edits.{sets, sets-eq}
 use Rattle.numbers.specs.Numbers.{equals}
 use Rattle.numbers.specs.Words.{word_at, word_bytes}
@@ -57,6 +58,13 @@ pub sets-all : (vs l : List ℕ) → length vs ≡ length l → sets l 0 vs ≡ 
 sets-all vs l e =
     let none : drop (0 + length vs) l ≡ [] = drop_of_length-le l {i = 0 + length vs} (omega arith) in
     sets-eq vs l 0 (omega arith) ∙ rw none (append-nil vs)
+
+-- a part that was written whole, from a place up to an end, is a splice
+pub spliced : (l : List ℕ) (i end : ℕ) {part vs : List ℕ} → end ≤ length l → part ≡ vs → i + length vs ≡ end
+    → put_mid i (end - i) l part ≡ sets l i vs
+spliced l i end {vs = vs} room is sized =
+    let size : end - i ≡ length vs = omega arith in
+    rw (is, size, drop-drop (length vs) i l) (sym (append_assoc (take i l) vs _) ∙ sym (sets-eq vs l i (rw sized room)))
 
 -- a word that was stored is read back
 pub word_back : (l : List ℕ) (i x : ℕ) → i + 4 ≤ length l → word_at (sets l i (word_bytes x)) i ≡ x

@@ -14,35 +14,21 @@ ghost use Rattle.numbers.specs.Words.{word_at, word_bytes};
 pub fn of_bits(bits: u32) -> i32
     ensures { result ≡ to_z w32 bits }
 {
-    if bits < 2147483648 {
-        bits as i32
-    } else {
-        !((!bits) as i32)
-    }
+    bits.cast_signed()
 }
 
 // The 32 bits of a number, in two's complement.
 pub fn to_bits(number: i32) -> u32
     ensures { result ≡ of_z w32 number }
 {
-    if number < 0 {
-        !((!number) as u32)
-    } else {
-        number as u32
-    }
+    number.cast_unsigned()
 }
 
 // The one place that says what becomes of a result that 32 bits may not hold: it stops at the end that it passed.
 fn settle(z: i64) -> i32
     ensures { result ≡ settled z }
 {
-    if z > 2147483647 {
-        i32::MAX
-    } else if z < -2147483648 {
-        i32::MIN
-    } else {
-        z as i32
-    }
+    z.clamp(i32::MIN as i64, i32::MAX as i64) as i32
 }
 
 // The sum of two numbers, settled.
@@ -59,15 +45,11 @@ pub fn subtract(a: i32, b: i32) -> i32
     settle(a as i64 - b as i64)
 }
 
-// A number with its sign changed, settled: only the least number's opposite needs more than 32 bits.
+// A number with its sign changed, settled.
 pub fn negate(a: i32) -> i32
     ensures { result ≡ settled (neg_ℤ a) }
 {
-    if a == -2147483648 {
-        settle(2147483648)
-    } else {
-        -a
-    }
+    settle(-(a as i64))
 }
 
 // Whether the first number is the smaller one.
@@ -89,17 +71,7 @@ pub fn word_at(bytes: &[u8], at: usize) -> u32
     requires { at + 4 ≤ length bytes.now }
     ensures { result ≡ word_at bytes.now at }
 {
-    wide(bytes[at])
-        + 256 * wide(bytes[at + 1])
-        + 65536 * wide(bytes[at + 2])
-        + 16777216 * wide(bytes[at + 3])
-}
-
-// A byte as a word.
-fn wide(byte: u8) -> u32
-    ensures { (result ≡ byte) × (result < 256) }
-{
-    byte as u32
+    u32::from_le_bytes([bytes[at], bytes[at + 1], bytes[at + 2], bytes[at + 3]])
 }
 
 // A byte as a length: the prover knows the bounds of a parameter, but not those of an element.
@@ -114,8 +86,5 @@ pub fn put_word(bytes: &mut [u8], at: usize, word: u32)
     requires { at + 4 ≤ length bytes.old }
     ensures { bytes.new ≡ sets bytes.old at (word_bytes word) }
 {
-    bytes[at] = (word % 256) as u8;
-    bytes[at + 1] = (word / 256 % 256) as u8;
-    bytes[at + 2] = (word / 65536 % 256) as u8;
-    bytes[at + 3] = (word / 16777216) as u8;
+    bytes[at..at + 4].copy_from_slice(&word.to_le_bytes());
 }

@@ -1,7 +1,7 @@
 -- What is put for a number is its digits, after its sign, and what is put for an output row is its numbers.
-use Prim.Native.Nat.{ℕ, suc, ◌+◌, ◌-◌, ◌/◌, ◌%◌, ◌≤◌, ◌<◌}
-use mathlib.Core.Path.{◌≡◌, refl, ap}
-use mathlib.Core.Bool.{true, false}
+use Prim.Native.Nat.{ℕ, ◌+◌, ◌-◌, ◌/◌, ◌%◌, ◌≤◌, ◌<◌}
+use mathlib.Core.Path.{◌≡◌, refl}
+use mathlib.Core.Bool.{true, false, true≢false}
 use mathlib.Core.List.{List, [], ◌∷◌, ◌++◌}
 use native.Mathlib.Omega.{arith}
 use lib.IntN.{ℤ, pos, negsuc, nat_abs}
@@ -12,7 +12,6 @@ use mir.Syntax.{w32}
 use mir.Val.{SFits, to_z, of_z}
 use mir.Facts.{to_z-of_z}
 use borrow.Author.Tests.{ltb-true}
-use Rattle.numbers.proofs.Bits.{turned, upward, cast_is}
 use Rattle.numbers.specs.Words.{word_at}
 use Rattle.text.specs.Buffers.{Puts}
 use Rattle.text.specs.Digits.{digits, decimal}
@@ -33,21 +32,17 @@ last {before} {after = after} {at} {past = past} n h g p q =
     let all : Puts before at (digits n) after past = rw (digits_more n h) (then p q) in
     (all, omega (arith, all.passed, digits_ten n g))
 
--- a number below zero: a sign, and the digits of its bits turned over and one more
-pub below : (z : ℤ) → SFits w32 z → lt_z (to_z w32 (of_z w32 z)) (pos 0) ≡ true
-    → decimal z ≡ 45 ∷ digits (nat_abs (to_z w32 (4294967295 - of_z w32 z)) + 1)
+-- a number below zero: a sign, and the digits of its magnitude
+pub below : (z : ℤ) → SFits w32 z → lt_z (to_z w32 (of_z w32 z)) (pos 0) ≡ true → decimal z ≡ 45 ∷ digits (nat_abs z)
 unfolding decimal
 below (pos n) f t = absurd (omega (arith, ltb-true n 0 (rw (to_z-of_z f) at t)))
-below (negsuc n) f t =
-    let e : suc n ≡ 4294967295 - (4294967296 - suc n) + 1 = omega (arith, f.sfits) in
-    rw (cast_is _ (turned (negsuc n) f t)) (ap (λ k. 45 ∷ digits k) e)
+below (negsuc n) f t = refl
 
--- one that is not: the digits of its bits
-pub above : (z : ℤ) → SFits w32 z → lt_z (to_z w32 (of_z w32 z)) (pos 0) ≡ false
-    → decimal z ≡ digits (nat_abs (to_z w32 (of_z w32 z)))
+-- one that is not: the digits of its magnitude
+pub above : (z : ℤ) → SFits w32 z → lt_z (to_z w32 (of_z w32 z)) (pos 0) ≡ false → decimal z ≡ digits (nat_abs z)
 unfolding decimal
-above (pos n) f t = rw (to_z-of_z f)
-above (negsuc n) f t = absurd (omega (arith, f.sfits, upward (negsuc n) f t))
+above (pos n) f t = refl
+above (negsuc n) f t = absurd (true≢false (rw (to_z-of_z f) at t))
 
 -- the numbers of a row too short for one, and of a longer one
 pub none_left : (s : List ℕ) → length s < 4 → spaced_all (numbers_of s) ≡ []

@@ -12,12 +12,9 @@ pub fn put_bytes(buffer: &mut [u8], at: usize, text: &[u8]) -> usize
     requires { at + length text.now ≤ length buffer.old }
     ensures { Puts buffer.old at text.now buffer.new result }
 {
-    let mut i = 0;
-    while i < text.len() {
-        buffer[at + i] = text[i];
-        i += 1;
-    }
-    at + i
+    let past = at + text.len();
+    buffer[at..past].copy_from_slice(text);
+    past
 }
 
 // Puts one byte.
@@ -50,9 +47,9 @@ pub fn put_number(buffer: &mut [u8], at: usize, z: i32) -> usize
 {
     if z < 0 {
         let next = put_byte(buffer, at, b'-');
-        return put_digits(buffer, next, !z as u32 + 1);
+        return put_digits(buffer, next, z.unsigned_abs());
     }
-    put_digits(buffer, at, z as u32)
+    put_digits(buffer, at, z.unsigned_abs())
 }
 
 // Puts a space and a number's digits.

@@ -1,39 +1,26 @@
--- `settle` gives the settled number.
-use mathlib.Core.Path.{◌≡◌, sym, ◌∙◌}
-use mathlib.Core.Bool.{true, false}
-use native.Mathlib.Omega.{arith}
-use lib.IntN.{ℤ, pos, negsuc}
+-- `settle` gives the settled number: clamped to the two ends, it is the definition's.
+use mathlib.Core.Path.{◌≡◌, refl, ap, ◌∙◌}
+use mathlib.Core.Bool.{Bool, true, false, cond}
+use lib.IntN.{ℤ}
 use lib.Signed.{lt_z}
-use mir.Syntax.{w32}
-use mir.Val.{SFits}
-use mir.Facts.{to_z-of_z}
-use borrow.Author.Tests.{ltb-false}
-use Rattle.numbers.specs.Numbers.{greatest, least}
-use Rattle.numbers.proofs.Laws.Nearest.{settled-inside, settled-above, settled-below}
+use mir.Syntax.{w32, w64}
+use mir.Val.{of_z, to_z}
+use mir.Facts.{to_z-of_z, sfits_widen}
+use Rattle.std.specs.Int.{int_max, int_min}
+use Rattle.numbers.specs.Numbers.{greatest, least, settled}
+use Rattle.numbers.proofs.Laws.Nearest.{settled-fits}
 use Rattle.numbers.proofs.settle.Goals as goal
 
-in_range_lem : (z : ℤ) → lt_z greatest z ≡ false → lt_z z least ≡ false → SFits w32 z
-in_range_lem (pos n) e d = record { sfits = omega (arith, ltb-false 2147483647 n e) }
-in_range_lem (negsuc n) e d = record { sfits = omega (arith, ltb-false 2147483647 n d) }
+clamped : (z : ℤ) → int_max least (int_min z greatest) ≡ settled z
+unfolding settled
+clamped z = go (lt_z greatest z)
+  where
+    go : (t : Bool) → int_max least (cond t greatest z) ≡ cond t greatest (cond (lt_z z least) least z)
+    go true = refl
+    go false = refl
 
--- what neither test takes
-inside : (c : goal.Else-z-ltminus2147483648) → SFits w32 c.args.z
-inside c =
-    let own = to_z-of_z c.ranges.z in
-    in_range_lem _ (rw own at c.if-z-gt2147483647.false) (rw own at c.if-z-ltminus2147483648.false)
-
-pub overflow_cast-result : goal.overflow_cast-result
-overflow_cast-result c = rw (to_z-of_z c.ranges.z) (inside c)
-
-pub returns-then-z-gt2147483647 : goal.returns-then-z-gt2147483647
-returns-then-z-gt2147483647 c =
-    let above : lt_z greatest c.args.z ≡ true = rw (to_z-of_z c.ranges.z) at c.if-z-gt2147483647.true in
-    sym (settled-above _ (record { lt = rw above tt }))
-
-pub returns-then-z-ltminus2147483648 : goal.returns-then-z-ltminus2147483648
-returns-then-z-ltminus2147483648 c =
-    let below : lt_z c.args.z least ≡ true = rw (to_z-of_z c.ranges.z) at c.if-z-ltminus2147483648.true in
-    sym (settled-below _ (record { lt = rw below tt }))
-
-pub returns-else-z-ltminus2147483648 : goal.returns-else-z-ltminus2147483648
-returns-else-z-ltminus2147483648 c = rw (to_z-of_z c.ranges.z) (to_z-of_z (inside c) ∙ sym (settled-inside _ (inside c)))
+pub returns : goal.returns
+returns c =
+    let is : c.clamp.result ≡ settled c.args.z = rw (to_z-of_z c.ranges.z) at c.clamp.ensures.value ∙ clamped c.args.z in
+    let f = settled-fits c.args.z in
+    ap (λ z. to_z w32 (of_z w32 (to_z w64 (of_z w64 z)))) is ∙ ap (λ z. to_z w32 (of_z w32 z)) (to_z-of_z {w = w64} (sfits_widen tt f)) ∙ to_z-of_z f

@@ -1,7 +1,7 @@
--- How the readers of each wire are gathered, and those of a set of wires: wire after wire, from the lowest of those that are left.
+-- How the readers of each wire are gathered, and those of a set of wires: wire after wire of those that are left.
 use Prim.Native.Nat.{ℕ, zero, suc, ◌≤◌, ◌<◌}
 use mathlib.Core.Path.{◌≡◌, refl, sym, ap, ◌∙◌}
-use mathlib.Core.Bool.{Bool, true, false, not, ◌&&◌, ◌||◌, or-true, or-false, and-false, and-true, true≢false}
+use mathlib.Core.Bool.{Bool, true, false, ◌&&◌, ◌||◌, or-true, or-false, and-false, and-true, true≢false}
 use mathlib.Core.List.{List}
 use native.Mathlib.Nat.{lt_of_not-le}
 use native.Mathlib.Omega.{arith}
@@ -9,7 +9,7 @@ use lib.Dec.{eqb, ltb}
 use lib.ListN.{length, get_or, set, replicate, length-set}
 use lib.Seq.{get_or-set_same, get_or-set_other}
 use borrow.Author.Tests.{eqb-true, eqb-false, ltb-true, ltb-false, lt-ltb, le-ltb}
-use Rattle.wires.specs.Sets.{member, LowestPresent}
+use Rattle.wires.specs.Sets.{member, LowestTaken}
 use Rattle.wires.specs.Laws.{none_in, at-or_else, taken-other, left_other}
 use Rattle.readers.specs.Readers.{AddsReader, Readers, ReadsOne, Reading}
 
@@ -29,34 +29,33 @@ none-added {wire = wire} {start} =
     }
 
 module _ {read wire left rest source : ℕ} {start readers : List ℕ} (word : ℕ) (a : Adding read wire left start readers)
-    (low : LowestPresent (member left) 64 source) (inside : source < 64) (room : 64 ≤ length start)
-    (adds : (k : ℕ) → member word k ≡ (member (get_or readers source 0) k || eqb k wire))
-    (takes : (k : ℕ) → member rest k ≡ (member left k && not (eqb k source))) where
+    (took : LowestTaken left source rest) (room : 64 ≤ length start)
+    (adds : (k : ℕ) → member word k ≡ (member (get_or readers source 0) k || eqb k wire)) where
   pub one-added : Adding read wire rest start (set readers source word)
   one-added =
       record {
         size = length-set readers source word ∙ a.size;
-        remain = λ v e. let (was, other) = left_other (member left) (member rest) source takes v e in
+        remain = λ v e. let (was, other) = left_other (member left) (member rest) source took.others v e in
             ((a.remain v was).0, get_or-set_other readers source v word 0 other ∙ (a.remain v was).1);
         done = λ v x l e.
             at-or_else (λ v. member rest v ≡ false → member (get_or (set readers source word) v 0) x
             ≡ (member (get_or start v 0) x || (eqb x wire && member read v))) source v (λ _. here x)
-            (λ other e. let was = sym (taken-other (member left) (member rest) source takes v other) ∙ e in
+            (λ other e. let was = sym (taken-other (member left) (member rest) source took.others v other) ∙ e in
             rw (get_or-set_other readers source v word 0 other) (a.done v x l was)) e;
       }
     where
       own : (member read source ≡ true) × (get_or readers source 0 ≡ get_or start source 0)
-      own = a.remain source (low.present inside)
+      own = a.remain source took.present
 
       here : (x : ℕ) → member (get_or (set readers source word) source 0) x
           ≡ (member (get_or start source 0) x || (eqb x wire && member read source))
       here x =
-          ap (λ (b : ℕ). member b x) (get_or-set_same readers source word 0 (omega (arith, a.size)))
+          ap (λ (b : ℕ). member b x) (get_or-set_same readers source word 0 (omega (arith, a.size, took.below)))
           ∙ adds x ∙ rw (own.0, own.1, and-true (eqb x wire))
 
-pub all-added : {read wire left source : ℕ} {start readers : List ℕ} → Adding read wire left start readers
-    → LowestPresent (member left) 64 source → 64 ≤ source → AddsReader read wire start readers
-all-added a low l = record { size = a.size; each = λ v x i. a.done v x i (low.empty l v) }
+pub all-added : {read wire left : ℕ} {start readers : List ℕ} → Adding read wire left start readers
+    → ((v : ℕ) → member left v ≡ false) → AddsReader read wire start readers
+all-added a none = record { size = a.size; each = λ v x i. a.done v x i (none v) }
 
 -- The readers among the first n wires, from a table of zeros.
 pub zero-at : (n v : ℕ) → ◌≡◌ {A = ℕ} (get_or (replicate n 0) v 0) 0
@@ -97,12 +96,11 @@ none_collected none =
     }
 
 pub one_collected : {readers : List ℕ} {read left rest source bits more : ℕ} → Collected readers read left bits
-    → LowestPresent (member left) 64 source → source < 64
-    → ((k : ℕ) → member more k ≡ (member bits k || member (get_or readers source 0) k))
-    → ((k : ℕ) → member rest k ≡ (member left k && not (eqb k source))) → Collected readers read rest more
-one_collected {readers} {read} {left} {rest} {source} {bits} {more} c low inside joins takes =
+    → LowestTaken left source rest
+    → ((k : ℕ) → member more k ≡ (member bits k || member (get_or readers source 0) k)) → Collected readers read rest more
+one_collected {readers} {read} {left} {rest} {source} {bits} {more} c took joins =
     record {
-      remain = λ v e. c.remain v (left_other (member left) (member rest) source takes v e).0;
+      remain = λ v e. c.remain v (left_other (member left) (member rest) source took.others v e).0;
       all = λ x r e. joins x ∙ reached x r e (eqb r.v source) refl;
       only = λ x e. from x (member bits x) refl (sym (joins x) ∙ e);
     }
@@ -113,12 +111,12 @@ one_collected {readers} {read} {left} {rest} {source} {bits} {more} c low inside
         let own : member (get_or readers source 0) x ≡ true = rw (eqb-true r.v source same) at r.reads in
         rw own (or-true (member bits x))
     reached x r e false other =
-        rw (c.all x r (sym (taken-other (member left) (member rest) source takes r.v (eqb-false r.v source other)) ∙ e))
+        rw (c.all x r (sym (taken-other (member left) (member rest) source took.others r.v (eqb-false r.v source other)) ∙ e))
 
     from : (x : ℕ) (t : Bool) → member bits x ≡ t → (t || member (get_or readers source 0) x) ≡ true → ReadsOne readers read x
     from x true e i = c.only x e
-    from x false e i = record { v = source; below = inside; among = c.remain source (low.present inside); reads = i }
+    from x false e i = record { v = source; below = took.below; among = c.remain source took.present; reads = i }
 
-pub all_collected : {readers : List ℕ} {read left source bits : ℕ} → Collected readers read left bits → LowestPresent (member left) 64 source
-    → 64 ≤ source → Reading readers read bits
-all_collected c low l = record { all = λ x r. c.all x r (low.empty l r.v); only = c.only }
+pub all_collected : {readers : List ℕ} {read left bits : ℕ} → Collected readers read left bits → ((v : ℕ) → member left v ≡ false)
+    → Reading readers read bits
+all_collected c none = record { all = λ x r. c.all x r (none r.v); only = c.only }

@@ -12,15 +12,11 @@ fn add_reader(read: Wires, wire: usize, readers: &mut [u64; 64])
     requires { (wire < 64) × (64 ≤ length readers.old) }
     ensures { AddsReader read.bits wire readers.old readers.new }
 {
-    let mut left = read;
-    let mut source = left.lowest() as usize;
-    while source < 64 {
+    for source in read {
         let so_far = Wires {
             bits: readers[source],
         };
         readers[source] = so_far.with(wire).bits;
-        left = left.without(source);
-        source = left.lowest() as usize;
     }
 }
 
@@ -29,11 +25,9 @@ pub fn gather(reads: &[u64; 64], wires: usize, readers: &mut [u64; 64])
     requires { (wires ≤ 64) × (64 ≤ length readers.old) × ((v : ℕ) → get_or readers.old v 0 ≡ 0) }
     ensures { Readers reads.now wires readers.new }
 {
-    let mut w = 0;
-    while w < wires {
-        let read = reads[w];
-        add_reader(Wires { bits: read }, w, readers);
-        w += 1;
+    for wire in 0..wires {
+        let read = Wires { bits: reads[wire] };
+        add_reader(read, wire, readers);
     }
 }
 
@@ -42,13 +36,10 @@ pub fn of_any(readers: &[u64; 64], read: Wires) -> Wires
     ensures { Reading readers.now read.bits result.bits }
 {
     let mut all = Wires::none();
-    let mut left = read;
-    let mut source = left.lowest() as usize;
-    while source < 64 {
-        let more = readers[source];
-        all = all.joined(Wires { bits: more });
-        left = left.without(source);
-        source = left.lowest() as usize;
+    for source in read {
+        all = all.joined(Wires {
+            bits: readers[source],
+        });
     }
     all
 }

@@ -1,13 +1,6 @@
--- `add_reader` meets its contract. The loop's invariant: `source` is the lowest wire that is left, and only those that are left have not
--- got the reader.
-use Prim.Native.Nat.{◌-◌}
-use Rattle.wires.specs.Sets.{member, LowestPresent}
+-- `add_reader` meets its contract. The loop's invariant: only the wires that are left have not got the reader.
 use Rattle.readers.proofs.Gathering.{Adding}
 use Rattle.readers.proofs.add_reader.Given as goal
 
 abbrev pub invariant-loop-source : goal.invariant-loop-source
-invariant-loop-source l =
-    LowestPresent (member l.left.bits) 64 l.source × Adding l.initial.left.bits l.wire l.left.bits l.initial.readers l.readers
-
-abbrev pub decreases-loop-source : goal.decreases-loop-source
-decreases-loop-source l = 64 - l.source
+invariant-loop-source l = Adding l.initial.source-iterator.left.bits l.wire l.source-iterator.left.bits l.initial.readers l.readers

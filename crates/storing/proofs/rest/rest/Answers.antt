@@ -8,5 +8,5 @@ restart-requires c = arm-room c.requires
 pub returns-then-fresh : goal.returns-then-fresh
 returns-then-fresh c = λ p. rw c.if-fresh.true (arm-anew p (c.restart.ensures (arm-room p)))
 
-pub returns : goal.returns
-returns c = λ p. rw c.if-fresh.false (arm-still p (c.skip.ensures p.place))
+pub returns-else-fresh : goal.returns-else-fresh
+returns-else-fresh c = λ p. rw c.if-fresh.false (arm-still p (c.skip.ensures p.place))

@@ -11,5 +11,5 @@ returns-then-test c =
     let holds = c.if-test.true in
     record { rests = λ t p. c.rest.ensures p; stays = λ f. clash holds f; keeps = λ f. clash holds f }
 
-pub returns : goal.returns
-returns c = record { rests = λ t p. clash t c.if-test.false; stays = λ f. refl; keeps = λ f. refl }
+pub returns-else-test : goal.returns-else-test
+returns-else-test c = record { rests = λ t p. clash t c.if-test.false; stays = λ f. refl; keeps = λ f. refl }

@@ -12,9 +12,9 @@ use Rattle.storing.proofs.rest.restart.Given as goal
 abbrev pub invariant-loop-pending : goal.invariant-loop-pending
 invariant-loop-pending l =
     (length l.memory ≡ length l.initial.memory)
-    × ((p : Room l.sheet (length l.initial.memory) l.at l.cell)
+    × ((p : Room l.sheet (length l.initial.memory) l.fn.here)
     → Left l.sheet l.next l.count l.pending l.memory p.place.next p.place.count
-    (sets l.initial.memory (5 * l.cell) (start_bytes (cell_forms p.place.tree))))
+    (sets l.initial.memory (5 * l.fn.here.cell) (start_bytes (cell_forms p.place.tree))))
 
 abbrev pub decreases-loop-pending : goal.decreases-loop-pending
 decreases-loop-pending l = length l.sheet - l.next

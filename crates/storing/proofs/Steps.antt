@@ -1,6 +1,6 @@
 -- The operands of an expression advance or rest one after the other in one memory: each of them still stands where it stood, and their
 -- cells are put one run behind the other.
-use Prim.Native.Nat.{ℕ, ◌+◌, ◌-◌, ◌*◌, ◌≤◌}
+use Prim.Native.Nat.{ℕ, ◌+◌, ◌-◌, ◌*◌, ◌≤◌, ◌<◌}
 use mathlib.Core.Path.{◌≡◌, refl, sym, ap, subst, ◌∙◌}
 use mathlib.Core.Bool.{Bool}
 use mathlib.Core.List.{List, [], ◌∷◌, ◌++◌}
@@ -16,7 +16,7 @@ use Rattle.sheet_walk.specs.declared.Place.{Place}
 use Rattle.kernel.specs.Instant.{resting, stored}
 use Rattle.leaves.specs.declared.Valued.{Valued}
 use Rattle.expression.specs.Places.{CellsStand, Gives}
-use Rattle.expression.proofs.Views.{Operand, placed, readable, operand-counted, One, Two, Three}
+use Rattle.expression.proofs.Views.{opened, Operand, placed, readable, operand-counted, One, Two, Three}
 use Rattle.storing.specs.Advances.{Ready, Advances, Arm, Rests}
 use Rattle.storing.proofs.Splices.{sets-turned}
 use Rattle.storing.proofs.Standing.{cells-past, memory_append, resting-length, stored-length}
@@ -27,6 +27,13 @@ at-place r e f = rw (← e, ← f) refl
 
 module _ {sheet memory words : List ℕ} {level asked : ℕ} {here : Place}
     (p : Ready sheet memory words level asked here) where
+  -- the measure of a call falls from an expression to its operands, which are advanced at all or by their kind
+  pub deeper : (step : ℕ) {t : ℕ} → 5 * level + step ≡ t → 5 * (level - 1) + 4 < t
+  deeper step e = omega (arith, e, (opened p.place).level-left)
+
+  pub deeper_by_kind : (step : ℕ) {t : ℕ} → 5 * level + step ≡ t → 5 * (level - 1) + 3 < t
+  deeper_by_kind step e = omega (arith, deeper step e)
+
   -- what a call answers at a place, in a memory m that it leaves as m'
   abbrev pub Steps : (m : List ℕ) (t : ℕ) → Place → Bool → Valued → (m' : List ℕ) → Type 0
   Steps m t there f r m' = (o : Ready sheet m words (level - 1) t there) → Advances o f r m'

@@ -1,5 +1,5 @@
 -- What an expression that advances or rests asks for, and what it leaves.
-use Rattle.std.specs.Prelude.{ℕ, ◌*◌, ◌≤◌, ◌<◌, ◌≡◌, Bool, true, false, List, length}
+use Rattle.std.specs.Prelude.{ℕ, ◌*◌, ◌≤◌, ◌<◌, ◌≡◌, Bool, true, false, List, length, get_or}
 use Rattle.std.proofs.lemmas.List.Edits.{sets}
 use Rattle.wires.specs.Sets.{member}
 use Rattle.sheet.specs.Expressions.{cell_forms}
@@ -9,6 +9,7 @@ use Rattle.sheet_walk.specs.declared.Place.{Place}
 use Rattle.kernel.specs.Instant.{Environment, resting}
 use Rattle.leaves.specs.declared.Valued.{Valued}
 use Rattle.expression.specs.Places.{CellsStand, Placement, Gives, stored_bytes}
+use Rattle.storing.specs.declared.advance.Fixed.{Fixed}
 
 -- an expression that stands somewhere under wires that are all known, and whose cells are among those of the instant, so that an arm
 -- keeps as many as it has, and have room in the memory
@@ -18,6 +19,14 @@ pub record Ready (sheet memory words : List ℕ) (level asked : ℕ) (here : Pla
   pub full : (w : ℕ) → w < length place.wires → member bits w ≡ true
   pub within : place.count ≤ length place.now.memory
   pub room : 5 * place.count ≤ length memory
+
+-- it stands so over what is lent as one
+abbrev pub ReadyUnder : Fixed → (memory : List ℕ) → (level asked : ℕ) → Place → Type 0
+ReadyUnder under memory level asked here = Ready under.sheet.now memory under.words.now level asked here
+
+-- its kind byte
+abbrev pub kind_under : Fixed → Place → ℕ
+kind_under under here = get_or under.sheet.now here.at 0
 
 -- its value is known, and its cells are stored in place
 pub record Advances {sheet memory words : List ℕ} {level asked : ℕ} {here : Place}

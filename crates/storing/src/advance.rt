@@ -1,17 +1,18 @@
 // An expression advanced: its value, which is known under finished wires, and its cells stored in place. What an expression reads of the
 // memory are its own cells, so that its operands advance one after the other in one memory.
 // Rests on `operations`, on `leaf`, `lasts` and `cells` of `leaves`, and on `rest` for the operands that do not run.
-ghost use Rattle.std.specs.Prelude.{◌≡◌, ◌≤◌, ◌<◌, get_or};
-ghost use Rattle.storing.specs.Advances.{Ready, Advances};
+ghost use Rattle.std.specs.Prelude.{◌≡◌, ◌≤◌, ◌<◌};
+ghost use Rattle.storing.specs.Advances.{ReadyUnder, Advances, kind_under};
 
 use crate::rest;
 use leaves::{Valued, cells, lasts, leaf};
 use sheet::{Cell, Datum, data, kinds, memory};
 use sheet_walk::Place;
 
-// What an expression advances over and leaves as it is: the sheet, and the words of the finished wires, of the inputs and of the kept
-// wires' cells.
-pub struct Finished<'a> {
+// What stays as it is while cells are stored: the sheet, and the words of the finished wires, of the inputs and of the kept wires' cells. It is
+// lent as one, so that a call hands on one address.
+#[derive(Clone, Copy)]
+pub struct Fixed<'a> {
     pub sheet: &'a [u8],
     pub words: &'a [u32; 144],
 }
@@ -20,16 +21,15 @@ pub struct Finished<'a> {
 // without a call of its own.
 #[cycle(advancing)]
 pub fn advance_expression(
-    under: &Finished,
+    under: &Fixed,
     memory: &mut [u8],
     level: usize,
     asked: u8,
     here: Place,
     fresh: bool,
 ) -> Valued
-    requires { Ready under.now.sheet.now memory.old under.now.words.now level asked here }
-    ensures { (p : Ready under.now.sheet.now memory.old under.now.words.now level asked here)
-        → Advances p fresh result memory.new }
+    requires { ReadyUnder under.now memory.old level asked here }
+    ensures { (p : ReadyUnder under.now memory.old level asked here) → Advances p fresh result memory.new }
 {
     if under.sheet[here.at] < 4 {
         return leaf::known_leaf(under.sheet, under.words, here);
@@ -40,17 +40,16 @@ pub fn advance_expression(
 // An operation on one or two operands, kinds 4 to 11, which advance in turn.
 #[cycle(advancing)]
 fn advance_operation(
-    under: &Finished,
+    under: &Fixed,
     memory: &mut [u8],
     level: usize,
     asked: u8,
     here: Place,
     fresh: bool,
 ) -> Valued
-    requires ready { Ready under.now.sheet.now memory.old under.now.words.now level asked here }
-    requires bound { (4 ≤ get_or under.now.sheet.now here.at 0) × (get_or under.now.sheet.now here.at 0 < 12) }
-    ensures { (p : Ready under.now.sheet.now memory.old under.now.words.now level asked here)
-        → Advances p fresh result memory.new }
+    requires ready { ReadyUnder under.now memory.old level asked here }
+    requires bound { (4 ≤ kind_under under.now here) × (kind_under under.now here < 12) }
+    ensures { (p : ReadyUnder under.now memory.old level asked here) → Advances p fresh result memory.new }
 {
     let kind = under.sheet[here.at];
     let operand = kinds::operation_type(kind);
@@ -76,17 +75,16 @@ fn advance_operation(
 // An if, kind 12: all three operands advance.
 #[cycle(advancing)]
 fn advance_conditional(
-    under: &Finished,
+    under: &Fixed,
     memory: &mut [u8],
     level: usize,
     asked: u8,
     here: Place,
     fresh: bool,
 ) -> Valued
-    requires ready { Ready under.now.sheet.now memory.old under.now.words.now level asked here }
-    requires at_value { get_or under.now.sheet.now here.at 0 ≡ 12 }
-    ensures { (p : Ready under.now.sheet.now memory.old under.now.words.now level asked here)
-        → Advances p fresh result memory.new }
+    requires ready { ReadyUnder under.now memory.old level asked here }
+    requires at_value { kind_under under.now here ≡ 12 }
+    ensures { (p : ReadyUnder under.now memory.old level asked here) → Advances p fresh result memory.new }
 {
     let below = level - 1;
     let first = Place {
@@ -105,17 +103,16 @@ fn advance_conditional(
 // A present, kind 13: the condition's arm advances, and the other rests.
 #[cycle(advancing)]
 fn advance_present(
-    under: &Finished,
+    under: &Fixed,
     memory: &mut [u8],
     level: usize,
     asked: u8,
     here: Place,
     fresh: bool,
 ) -> Valued
-    requires ready { Ready under.now.sheet.now memory.old under.now.words.now level asked here }
-    requires at_value { get_or under.now.sheet.now here.at 0 ≡ 13 }
-    ensures { (p : Ready under.now.sheet.now memory.old under.now.words.now level asked here)
-        → Advances p fresh result memory.new }
+    requires ready { ReadyUnder under.now memory.old level asked here }
+    requires at_value { kind_under under.now here ≡ 13 }
+    ensures { (p : ReadyUnder under.now memory.old level asked here) → Advances p fresh result memory.new }
 {
     let below = level - 1;
     let first = Place {
@@ -138,17 +135,16 @@ fn advance_present(
 // A reset, kind 14: a true condition makes its operand fresh before that advances.
 #[cycle(advancing)]
 fn advance_reset(
-    under: &Finished,
+    under: &Fixed,
     memory: &mut [u8],
     level: usize,
     asked: u8,
     here: Place,
     fresh: bool,
 ) -> Valued
-    requires ready { Ready under.now.sheet.now memory.old under.now.words.now level asked here }
-    requires at_value { get_or under.now.sheet.now here.at 0 ≡ 14 }
-    ensures { (p : Ready under.now.sheet.now memory.old under.now.words.now level asked here)
-        → Advances p fresh result memory.new }
+    requires ready { ReadyUnder under.now memory.old level asked here }
+    requires at_value { kind_under under.now here ≡ 14 }
+    ensures { (p : ReadyUnder under.now memory.old level asked here) → Advances p fresh result memory.new }
 {
     let below = level - 1;
     let first = Place {
@@ -163,17 +159,16 @@ fn advance_reset(
 // A pre, kinds 15 and 16: its cell is read, then its operand advances, whose value the cell gets.
 #[cycle(advancing)]
 fn advance_pre(
-    under: &Finished,
+    under: &Fixed,
     memory: &mut [u8],
     level: usize,
     asked: u8,
     here: Place,
     fresh: bool,
 ) -> Valued
-    requires ready { Ready under.now.sheet.now memory.old under.now.words.now level asked here }
-    requires bound { (15 ≤ get_or under.now.sheet.now here.at 0) × (get_or under.now.sheet.now here.at 0 < 17) }
-    ensures { (p : Ready under.now.sheet.now memory.old under.now.words.now level asked here)
-        → Advances p fresh result memory.new }
+    requires ready { ReadyUnder under.now memory.old level asked here }
+    requires bound { (15 ≤ kind_under under.now here) × (kind_under under.now here < 17) }
+    ensures { (p : ReadyUnder under.now memory.old level asked here) → Advances p fresh result memory.new }
 {
     let below = level - 1;
     let first = Place {
@@ -197,17 +192,16 @@ fn advance_pre(
 // operands rest. Its cell, which is read first, gets the state whose body ran.
 #[cycle(advancing)]
 fn advance_machine(
-    under: &Finished,
+    under: &Fixed,
     memory: &mut [u8],
     level: usize,
     asked: u8,
     here: Place,
     fresh: bool,
 ) -> Valued
-    requires ready { Ready under.now.sheet.now memory.old under.now.words.now level asked here }
-    requires at_value { get_or under.now.sheet.now here.at 0 ≡ 19 }
-    ensures { (p : Ready under.now.sheet.now memory.old under.now.words.now level asked here)
-        → Advances p fresh result memory.new }
+    requires ready { ReadyUnder under.now memory.old level asked here }
+    requires at_value { kind_under under.now here ≡ 19 }
+    ensures { (p : ReadyUnder under.now memory.old level asked here) → Advances p fresh result memory.new }
 {
     let below = level - 1;
     let first = Place {
@@ -235,17 +229,16 @@ fn advance_machine(
 // machine are told from it here, as in `value_held`.
 #[cycle(advancing)]
 fn advance_held(
-    under: &Finished,
+    under: &Fixed,
     memory: &mut [u8],
     level: usize,
     asked: u8,
     here: Place,
     fresh: bool,
 ) -> Valued
-    requires ready { Ready under.now.sheet.now memory.old under.now.words.now level asked here }
-    requires bound { 17 ≤ get_or under.now.sheet.now here.at 0 }
-    ensures { (p : Ready under.now.sheet.now memory.old under.now.words.now level asked here)
-        → Advances p fresh result memory.new }
+    requires ready { ReadyUnder under.now memory.old level asked here }
+    requires bound { 17 ≤ kind_under under.now here }
+    ensures { (p : ReadyUnder under.now memory.old level asked here) → Advances p fresh result memory.new }
 {
     if kinds::LAST <= under.sheet[here.at] {
         if under.sheet[here.at] == kinds::LAST {
@@ -276,16 +269,15 @@ fn advance_held(
 // An expression by its kind.
 #[cycle(advancing)]
 fn advance_by_kind(
-    under: &Finished,
+    under: &Fixed,
     memory: &mut [u8],
     level: usize,
     asked: u8,
     here: Place,
     fresh: bool,
 ) -> Valued
-    requires { Ready under.now.sheet.now memory.old under.now.words.now level asked here }
-    ensures { (p : Ready under.now.sheet.now memory.old under.now.words.now level asked here)
-        → Advances p fresh result memory.new }
+    requires { ReadyUnder under.now memory.old level asked here }
+    ensures { (p : ReadyUnder under.now memory.old level asked here) → Advances p fresh result memory.new }
 {
     match under.sheet[here.at] {
         0..=3 => leaf::known_leaf(under.sheet, under.words, here),

@@ -5,7 +5,7 @@ use native.Mathlib.Omega.{arith}
 use borrow.Author.Rules.{rules}
 use Rattle.expression.proofs.Views.{opened, whole, leaf-of, last_of, own-cell, state-cell, only-fby, only-machine}
 use Rattle.expression.proofs.Views.{binary-view, conditional-view, present-view, reset-view, pre-view, fby-view}
-use Rattle.storing.proofs.Steps.{one-ready, two_ready, two-ready_2, three-ready, three-ready_2, three-ready_3}
+use Rattle.storing.proofs.Steps.{deeper, deeper_by_kind, one-ready, two_ready, two-ready_2, three-ready, three-ready_2, three-ready_3}
 use Rattle.storing.proofs.Steps.{three-arm_2, three-arm_3, rest-ready_3}
 use Rattle.storing.proofs.Advancing.{leaf_advances, last_advances, operation_ready, unary_advances, binary_advances, conditional_advances}
 use Rattle.storing.proofs.Advancing.{present_advances_first, present_advances_second, reset_advances, pre_advances, fby_advances}
@@ -23,19 +23,19 @@ pub advance_conditional-advance_expression-condition-requires : goal.advance_con
 advance_conditional-advance_expression-condition-requires t c =
     let p = c.requires.ready in
     let w = conditional-view p.place c.requires.at_value in
-    (omega (arith, c.decreases, (opened p.place).level-left), three-ready p w)
+    (deeper p 2 c.decreases, three-ready p w)
 
 pub advance_conditional-advance_expression-then-requires : goal.advance_conditional-advance_expression-then-requires
 advance_conditional-advance_expression-then-requires t c =
     let p = c.requires.ready in
     let w = conditional-view p.place c.requires.at_value in
-    (omega (arith, c.decreases, (opened p.place).level-left), three-ready_2 p w c.advance_expression-condition.ensures)
+    (deeper p 2 c.decreases, three-ready_2 p w c.advance_expression-condition.ensures)
 
 pub advance_conditional-advance_expression-otherwise-requires : goal.advance_conditional-advance_expression-otherwise-requires
 advance_conditional-advance_expression-otherwise-requires t c =
     let p = c.requires.ready in
     let w = conditional-view p.place c.requires.at_value in (
-      omega (arith, c.decreases, (opened p.place).level-left),
+      deeper p 2 c.decreases,
       three-ready_3 p w
           c.advance_expression-condition.ensures c.advance_expression-then.ensures,
     )
@@ -116,13 +116,13 @@ pub advance_held-advance_expression-left-requires : goal.advance_held-advance_ex
 advance_held-advance_expression-left-requires t c =
     let p = c.requires.ready in
     let w = fby-view p.place (only-fby c.requires.bound c.if-under-here-ge-LAST.false) in
-    (omega (arith, c.decreases, (opened p.place).level-left), two_ready p w)
+    (deeper p 2 c.decreases, two_ready p w)
 
 pub advance_held-advance_expression-right-requires : goal.advance_held-advance_expression-right-requires
 advance_held-advance_expression-right-requires t c =
     let p = c.requires.ready in
     let w = fby-view p.place (only-fby c.requires.bound c.if-under-here-ge-LAST.false) in
-    (omega (arith, c.decreases, (opened p.place).level-left), two-ready_2 p w c.advance_expression-left.ensures)
+    (deeper p 2 c.decreases, two-ready_2 p w c.advance_expression-left.ensures)
 
 pub advance_held-put_cell-requires : goal.advance_held-put_cell-requires
 advance_held-put_cell-requires t c =
@@ -157,7 +157,7 @@ advance_machine-rest_if-start-requires t c = λ holds. first_condition_lem c.req
 pub advance_machine-advance_expression-condition-requires : goal.advance_machine-advance_expression-condition-requires
 advance_machine-advance_expression-condition-requires t c =
     let p = c.requires.ready in (
-      omega (arith, c.decreases, (opened p.place).level-left),
+      deeper p 1 c.decreases,
       condition_ready p c.args.fresh c.requires.at_value c.is_second_state-state.ensures c.rest_if-start.ensures,
     )
 
@@ -174,7 +174,7 @@ advance_machine-rest_if-run-requires t c =
 pub advance_machine-advance_by_kind-body-requires : goal.advance_machine-advance_by_kind-body-requires
 advance_machine-advance_by_kind-body-requires t c =
     let p = c.requires.ready in (
-      omega (arith, c.decreases, (opened p.place).level-left),
+      deeper_by_kind p 1 c.decreases,
       body-ready p c.args.fresh c.requires.at_value c.is_second_state-state.ensures
           c.rest_if-start.ensures c.advance_expression-condition.ensures c.rest_if-bodies.ensures c.rest_if-run.ensures,
     )
@@ -227,7 +227,7 @@ pub advance_operation-advance_expression-left-requires : goal.advance_operation-
 advance_operation-advance_expression-left-requires t c =
     let p = c.requires.ready in
     let first = operation_ready p c.args.fresh _ (c.operation_type-operand.ensures _) c.requires.bound.0 c.requires.bound.1 in
-    (omega (arith, c.decreases, (opened p.place).level-left), first)
+    (deeper p 2 c.decreases, first)
 
 pub advance_operation-returns-then-kind-lt6 : goal.advance_operation-returns-then-kind-lt6
 advance_operation-returns-then-kind-lt6 t c =
@@ -238,7 +238,7 @@ pub advance_operation-advance_expression-right-requires : goal.advance_operation
 advance_operation-advance_expression-right-requires t c =
     let p = c.requires.ready in
     let w = binary-view p.place _ (c.operation_type-operand.ensures _) c.if-kind-lt6.false c.requires.bound.1 in
-    (omega (arith, c.decreases, (opened p.place).level-left), two-ready_2 p w c.advance_expression-left.ensures)
+    (deeper p 2 c.decreases, two-ready_2 p w c.advance_expression-left.ensures)
 
 pub advance_operation-shape_of-memory : goal.advance_operation-shape_of-memory
 advance_operation-shape_of-memory t c = c.advance_expression-right.auto.memory ∙ c.advance_expression-left.auto.memory
@@ -276,7 +276,7 @@ pub advance_pre-advance_expression-operand-requires : goal.advance_pre-advance_e
 advance_pre-advance_expression-operand-requires t c =
     let p = c.requires.ready in
     let w = pre-view p.place c.requires.bound.0 c.requires.bound.1 in
-    (omega (arith, c.decreases, (opened p.place).level-left), rw c.body.ensures (one-ready p w))
+    (deeper p 2 c.decreases, rw c.body.ensures (one-ready p w))
 
 pub advance_pre-put_cell-requires : goal.advance_pre-put_cell-requires
 advance_pre-put_cell-requires t c =
@@ -302,13 +302,13 @@ pub advance_present-advance_expression-condition-requires : goal.advance_present
 advance_present-advance_expression-condition-requires t c =
     let p = c.requires.ready in
     let w = present-view p.place c.requires.at_value in
-    (omega (arith, c.decreases, (opened p.place).level-left), three-ready p w)
+    (deeper p 2 c.decreases, three-ready p w)
 
 pub advance_present-advance_by_kind-yes-requires : goal.advance_present-advance_by_kind-yes-requires
 advance_present-advance_by_kind-yes-requires t c =
     let p = c.requires.ready in
     let w = present-view p.place c.requires.at_value in
-    (omega (arith, c.decreases, (opened p.place).level-left), three-ready_2 p w c.advance_expression-condition.ensures)
+    (deeper_by_kind p 2 c.decreases, three-ready_2 p w c.advance_expression-condition.ensures)
 
 pub advance_present-rest-end-requires : goal.advance_present-rest-end-requires
 advance_present-rest-end-requires t c =
@@ -332,7 +332,7 @@ pub advance_present-advance_by_kind-requires : goal.advance_present-advance_by_k
 advance_present-advance_by_kind-requires t c =
     let p = c.requires.ready in
     let w = present-view p.place c.requires.at_value in (
-      omega (arith, c.decreases, (opened p.place).level-left),
+      deeper_by_kind p 2 c.decreases,
       rest-ready_3 p w
           c.advance_expression-condition.ensures c.rest-no.ensures,
     )
@@ -355,13 +355,13 @@ pub advance_reset-advance_expression-condition-requires : goal.advance_reset-adv
 advance_reset-advance_expression-condition-requires t c =
     let p = c.requires.ready in
     let w = reset-view p.place c.requires.at_value in
-    (omega (arith, c.decreases, (opened p.place).level-left), two_ready p w)
+    (deeper p 2 c.decreases, two_ready p w)
 
 pub advance_reset-advance_by_kind-requires : goal.advance_reset-advance_by_kind-requires
 advance_reset-advance_by_kind-requires t c =
     let p = c.requires.ready in
     let w = reset-view p.place c.requires.at_value in
-    (omega (arith, c.decreases, (opened p.place).level-left), two-ready_2 p w c.advance_expression-condition.ensures)
+    (deeper_by_kind p 2 c.decreases, two-ready_2 p w c.advance_expression-condition.ensures)
 
 pub advance_reset-shape_of-memory : goal.advance_reset-shape_of-memory
 advance_reset-shape_of-memory t c = c.advance_by_kind.auto.memory ∙ c.advance_expression-condition.auto.memory

@@ -33,7 +33,7 @@ use Rattle.expression.proofs.Views.{cells-split}
 use Rattle.rounds.proofs.Wires.{wires-counted, cells-within, running_stands, wire-valued}
 use Rattle.rounds.proofs.Rounding.{known-held}
 use Rattle.storing.specs.Advances.{Ready, Advances}
-use Rattle.storing.specs.declared.advance.Advanced.{Advanced}
+use Rattle.leaves.specs.declared.Valued.{Valued}
 use Rattle.storing.proofs.Standing.{cells-past, memory_append, stored-length}
 use Rattle.rounds.specs.Settled.{Settled, stored_of}
 
@@ -196,7 +196,7 @@ module _ {s start types places firsts words : List ℕ} (f : Settled s start typ
             (own ∙ rw place, omega (arith, own-size byte held, number))
 
         -- its expression can advance
-        pub ready : {at : ℕ} → at ≡ get_or places w 0 → Ready s middle words 16 (plain_byte byte) at cell
+        pub ready : {at : ℕ} → at ≡ get_or places w 0 → Ready s middle words 16 (plain_byte byte) (record { at = at; cell = cell })
         ready p =
             let t = turn h l in
             let here = f.under.running.starts w l in
@@ -235,7 +235,7 @@ module _ {s start types places firsts words : List ℕ} (f : Settled s start typ
             (sym (sets-append own_bytes (memory_bytes cells) memory (5 * first w))))
 
         -- its expression advanced
-        pub one-stored : {at : ℕ} (p : at ≡ get_or places w 0) {r : Advanced} {after : List ℕ} → Advances (ready p) false r after
+        pub one-stored : {at : ℕ} (p : at ≡ get_or places w 0) {r : Valued} {after : List ℕ} → Advances (ready p) false r after
             → Stored (w + 1) after
         unfolding ready
         one-stored p a = both_stored a.holds

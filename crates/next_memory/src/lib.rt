@@ -13,7 +13,8 @@ ghost use Rattle.rounds.specs.Settled.{Settled, stored_of};
 
 use sheet::{Cell, data, memory};
 use sheet_expressions::map;
-use storing::advance;
+use sheet_walk::Place;
+use storing::advance::{self, Fixed};
 
 // Stores the cells of all wires under the finished values, which the words hold. These are just what the expressions give, so that a kept wire's
 // word is stored as it is, and nothing is worked out again where an expression owns no cell.
@@ -29,25 +30,18 @@ pub fn store(
     ensures { (f : Settled sheet.now memory.old types.now
         places.now firsts.now words.now) → memory.new ≡ stored_of f }
 {
-    let mut w = 0;
-    while w < types.len() {
+    let fixed = Fixed { sheet, words };
+    for w in 0..types.len() {
         let byte = types[w];
         let cell = numbers::length_of(firsts[w]);
         store_own(memory, byte, words[w], cell);
         if may_own(types, firsts, w, cell) {
-            let at = map::place(places[w]);
-            advance::advance_expression(
-                sheet,
-                memory,
-                words,
-                16,
-                data::plain(byte),
-                at,
+            let here = Place {
+                at: map::place(places[w]),
                 cell,
-                false,
-            );
+            };
+            advance::advance_expression(&fixed, memory, 16, data::plain(byte), here, false);
         }
-        w += 1;
     }
 }
 

@@ -1,49 +1,49 @@
 -- `store` meets its contract. The loop's invariant: the wires below w have stored their cells.
 use mathlib.Core.Path.{refl, ap, ◌∙◌}
+use Prim.Native.Nat.{◌<◌}
 use native.Mathlib.Omega.{arith}
 use lib.ListN.{length}
 use Rattle.next_memory.proofs.Storing.{unstored, own-fits, ready, one-stored, none-stored, all-stored}
 use Rattle.next_memory.proofs.store.Goals as goal
 
 pub loop-w-init : goal.loop-w-init
-loop-w-init c = (omega arith, c.requires.under.running.few, refl, λ f. unstored f)
+loop-w-init c = (c.requires.under.running.few, refl, λ f. unstored f)
 
 pub store_own-requires : goal.store_own-requires
 store_own-requires c =
-    own-fits c.requires (c.loop-w.invariant.3 c.requires) c.loop-w-test.true c.length_of-cell.ensures.0
+    own-fits c.requires (c.loop-w.invariant.2 c.requires) (omega arith) c.length_of-cell.ensures.0
 
 pub advance_expression-requires : goal.advance_expression-requires
 advance_expression-requires c =
     let f = c.requires in
     rw c.plain.ensures
-    (ready f (c.loop-w.invariant.3 f) c.loop-w-test.true c.length_of-cell.ensures.0 c.store_own.ensures c.place-at.ensures)
+    (ready f (c.loop-w.invariant.2 f) (omega arith) c.length_of-cell.ensures.0 c.store_own.ensures c.place.ensures)
 
 pub loop-w-preserved : goal.loop-w-preserved
 loop-w-preserved c =
     let own = c.store_own in
     let before = c.loop-w.invariant in
-    let more = c.loop-w-test.true in
+    let more : c.loop-w.w < length c.args.types.now = omega arith in
     let first = c.length_of-cell.ensures.0 in (
-      omega arith,
-      before.1,
+      before.0,
       elim c.if-may_own.branch [
         | goal.then-may_own w ↦ ap length w.memory-is ∙ w.advance_expression.auto.memory
         | goal.else-may_own w ↦ ap length w.memory-is
-      ] ∙ own.auto.memory ∙ before.2,
+      ] ∙ own.auto.memory ∙ before.1,
       λ f.
-          let h = before.3 f in
+          let h = before.2 f in
           elim c.if-may_own.branch [
             | goal.then-may_own w ↦
-                let can = ready f h more first own.ensures w.place-at.ensures in
+                let can = ready f h more first own.ensures w.place.ensures in
                 rw w.memory-is
-                (one-stored f h more first own.ensures w.place-at.ensures ((rw w.plain.ensures at w.advance_expression.ensures) can))
+                (one-stored f h more first own.ensures w.place.ensures ((rw w.plain.ensures at w.advance_expression.ensures) can))
             | goal.else-may_own w ↦
                 rw w.memory-is (none-stored f h more first own.ensures (c.may_own.ensures w.if-may_own.false))
           ],
     )
 
 pub shape_of-memory : goal.shape_of-memory
-shape_of-memory c = c.loop-w.invariant.2
+shape_of-memory c = c.loop-w.invariant.1
 
 pub returns : goal.returns
-returns c = λ f. all-stored f (c.loop-w.invariant.3 f) (omega arith)
+returns c = λ f. all-stored f (c.loop-w.invariant.2 f) (omega arith)

@@ -1,5 +1,5 @@
 -- `store` meets its contract. The loop's invariant: the wires below w have stored their cells.
-use Prim.Native.Nat.{◌-◌, ◌≤◌}
+use Prim.Native.Nat.{◌≤◌}
 use mathlib.Core.Path.{◌≡◌}
 use lib.ListN.{length}
 use Rattle.rounds.specs.Settled.{Settled}
@@ -8,8 +8,5 @@ use Rattle.next_memory.proofs.store.Given as goal
 
 abbrev pub invariant-loop-w : goal.invariant-loop-w
 invariant-loop-w l =
-    (l.w ≤ length l.types) × (length l.types ≤ 64) × (length l.memory ≡ length l.initial.memory)
+    (length l.types ≤ 64) × (length l.memory ≡ length l.initial.memory)
     × ((f : Settled l.sheet l.initial.memory l.types l.places l.firsts l.words) → Stored f l.w l.memory)
-
-abbrev pub decreases-loop-w : goal.decreases-loop-w
-decreases-loop-w l = length l.types - l.w

@@ -42,8 +42,5 @@ loop-w-preserved c =
           ],
     )
 
-pub shape_of-memory : goal.shape_of-memory
-shape_of-memory c = c.loop-w.invariant.1
-
 pub returns : goal.returns
 returns c = λ f. all-stored f (c.loop-w.invariant.2 f) (omega arith)

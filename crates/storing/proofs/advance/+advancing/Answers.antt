@@ -1,8 +1,6 @@
 -- The functions that advance an expression meet their contracts. The level falls from an expression to its operands; an expression
 -- goes by its kind at the same level, if it is no leaf.
-use mathlib.Core.Path.{◌∙◌}
 use native.Mathlib.Omega.{arith}
-use borrow.Author.Rules.{rules}
 use Rattle.expression.proofs.Views.{opened, whole, leaf-of, last_of, own-cell, state-cell, only-fby, only-machine}
 use Rattle.expression.proofs.Views.{binary-view, conditional-view, present-view, reset-view, pre-view, fby-view}
 use Rattle.storing.proofs.Steps.{deeper, deeper_by_kind, one-ready, two_ready, two-ready_2, three-ready, three-ready_2, three-ready_3}
@@ -15,9 +13,6 @@ use Rattle.storing.proofs.advance.+advancing.Goals as goal
 
 pub advance_conditional-overflow_sub-below : goal.advance_conditional-overflow_sub-below
 advance_conditional-overflow_sub-below t c = (opened c.requires.ready.place).level-left
-
-pub advance_conditional-overflow_add-first : goal.advance_conditional-overflow_add-first
-advance_conditional-overflow_add-first t c = omega (arith, (opened c.requires.ready.place).good.starts)
 
 pub advance_conditional-advance_expression-condition-requires : goal.advance_conditional-advance_expression-condition-requires
 advance_conditional-advance_expression-condition-requires t c =
@@ -40,9 +35,6 @@ advance_conditional-advance_expression-otherwise-requires t c =
           c.advance_expression-condition.ensures c.advance_expression-then.ensures,
     )
 
-pub advance_conditional-shape_of-memory : goal.advance_conditional-shape_of-memory
-advance_conditional-shape_of-memory t c = c.advance_expression-otherwise.auto.memory ∙ c.advance_expression-then.auto.memory ∙ c.advance_expression-condition.auto.memory
-
 pub advance_conditional-returns : goal.advance_conditional-returns
 advance_conditional-returns t c =
     λ p. conditional_advances p c.args.fresh c.requires.at_value
@@ -52,35 +44,11 @@ advance_conditional-returns t c =
 pub advance_by_kind-bounds-under-here : goal.advance_by_kind-bounds-under-here
 advance_by_kind-bounds-under-here t c = (opened c.requires.place).good.starts
 
-pub advance_by_kind-advance_conditional-requires : goal.advance_by_kind-advance_conditional-requires
-advance_by_kind-advance_conditional-requires t c = (omega (arith, c.decreases), (c.requires, c.in-12.is))
-
-pub advance_by_kind-advance_present-requires : goal.advance_by_kind-advance_present-requires
-advance_by_kind-advance_present-requires t c = (omega (arith, c.decreases), (c.requires, c.in-13.is))
-
-pub advance_by_kind-advance_reset-requires : goal.advance_by_kind-advance_reset-requires
-advance_by_kind-advance_reset-requires t c = (omega (arith, c.decreases), (c.requires, c.in-14.is))
-
 pub advance_by_kind-known_leaf-requires : goal.advance_by_kind-known_leaf-requires
 advance_by_kind-known_leaf-requires t c = leaf-of c.requires.place (omega arith)
 
-pub advance_by_kind-advance_operation-requires : goal.advance_by_kind-advance_operation-requires
-advance_by_kind-advance_operation-requires t c = (omega (arith, c.decreases), (c.requires, search rules))
-
-pub advance_by_kind-advance_pre-requires : goal.advance_by_kind-advance_pre-requires
-advance_by_kind-advance_pre-requires t c = (omega (arith, c.decreases), (c.requires, search rules))
-
-pub advance_by_kind-advance_held-requires : goal.advance_by_kind-advance_held-requires
-advance_by_kind-advance_held-requires t c = (omega (arith, c.decreases), (c.requires, omega arith))
-
 pub advance_by_kind-returns-in-0-to-3 : goal.advance_by_kind-returns-in-0-to-3
 advance_by_kind-returns-in-0-to-3 t c = λ p. leaf_advances p c.args.fresh (omega arith) c.known_leaf.ensures
-
-pub advance_held-bounds-under-here : goal.advance_held-bounds-under-here
-advance_held-bounds-under-here t c = (opened c.requires.ready.place).good.starts
-
-pub advance_held-bounds-under-here-then-under-here-ge-LAST : goal.advance_held-bounds-under-here-then-under-here-ge-LAST
-advance_held-bounds-under-here-then-under-here-ge-LAST t c = (opened c.requires.ready.place).good.starts
 
 pub advance_held-value_last-requires : goal.advance_held-value_last-requires
 advance_held-value_last-requires t c = last_of c.requires.ready.place c.if-under-here-eq-LAST.true
@@ -95,9 +63,6 @@ advance_held-advance_machine-requires t c =
 
 pub advance_held-overflow_sub-below : goal.advance_held-overflow_sub-below
 advance_held-overflow_sub-below t c = (opened c.requires.ready.place).level-left
-
-pub advance_held-overflow_add-first : goal.advance_held-overflow_add-first
-advance_held-overflow_add-first t c = omega (arith, (opened c.requires.ready.place).good.starts)
 
 pub advance_held-overflow_add-first-2 : goal.advance_held-overflow_add-first-2
 advance_held-overflow_add-first-2 t c = omega (arith, (opened c.requires.ready.place).good.cells)
@@ -130,9 +95,6 @@ advance_held-put_cell-requires t c =
     let own = own-cell p (omega (arith, c.requires.bound)) (omega (arith, c.if-under-here-ge-LAST.false)) in
     omega (arith, own.stands.fits, c.advance_expression-right.auto.memory, c.advance_expression-left.auto.memory)
 
-pub advance_held-shape_of-memory : goal.advance_held-shape_of-memory
-advance_held-shape_of-memory t c = c.put_cell.auto.memory ∙ c.advance_expression-right.auto.memory ∙ c.advance_expression-left.auto.memory
-
 pub advance_held-returns : goal.advance_held-returns
 advance_held-returns t c =
     λ p. fby_advances p c.args.fresh (only-fby c.requires.bound c.if-under-here-ge-LAST.false)
@@ -141,9 +103,6 @@ advance_held-returns t c =
 
 pub advance_machine-overflow_sub-below : goal.advance_machine-overflow_sub-below
 advance_machine-overflow_sub-below t c = (opened c.requires.ready.place).level-left
-
-pub advance_machine-overflow_add-first : goal.advance_machine-overflow_add-first
-advance_machine-overflow_add-first t c = omega (arith, (opened c.requires.ready.place).good.starts)
 
 pub advance_machine-overflow_add-first-2 : goal.advance_machine-overflow_add-first-2
 advance_machine-overflow_add-first-2 t c = omega (arith, (opened c.requires.ready.place).good.cells)
@@ -199,29 +158,14 @@ advance_machine-put_cell-requires t c =
       c.rest_if-start.auto.memory,
     )
 
-pub advance_machine-shape_of-memory : goal.advance_machine-shape_of-memory
-advance_machine-shape_of-memory t c =
-    c.put_cell.auto.memory ∙ c.rest_if-end.auto.memory ∙ c.advance_by_kind-body.auto.memory
-    ∙ c.rest_if-run.auto.memory ∙ c.rest_if-bodies.auto.memory ∙ c.advance_expression-condition.auto.memory
-    ∙ c.rest_if-start.auto.memory
-
 pub advance_machine-returns : goal.advance_machine-returns
 advance_machine-returns t c =
     λ p. machine_advances p c.args.fresh c.requires.at_value c.is_second_state-state.ensures c.rest_if-start.ensures
     c.advance_expression-condition.ensures c.rest_if-bodies.ensures c.rest_if-run.ensures c.advance_by_kind-body.ensures
     c.rest_if-end.ensures c.put_cell.ensures
 
-pub advance_operation-bounds-under-here : goal.advance_operation-bounds-under-here
-advance_operation-bounds-under-here t c = (opened c.requires.ready.place).good.starts
-
-pub advance_operation-operation_type-operand-requires : goal.advance_operation-operation_type-operand-requires
-advance_operation-operation_type-operand-requires t c = c.requires.bound
-
 pub advance_operation-overflow_sub-below : goal.advance_operation-overflow_sub-below
 advance_operation-overflow_sub-below t c = (opened c.requires.ready.place).level-left
-
-pub advance_operation-overflow_add-first : goal.advance_operation-overflow_add-first
-advance_operation-overflow_add-first t c = omega (arith, (opened c.requires.ready.place).good.starts)
 
 pub advance_operation-advance_expression-left-requires : goal.advance_operation-advance_expression-left-requires
 advance_operation-advance_expression-left-requires t c =
@@ -240,9 +184,6 @@ advance_operation-advance_expression-right-requires t c =
     let w = binary-view p.place _ (c.operation_type-operand.ensures _) c.if-kind-lt6.false c.requires.bound.1 in
     (deeper p 2 c.decreases, two-ready_2 p w c.advance_expression-left.ensures)
 
-pub advance_operation-shape_of-memory : goal.advance_operation-shape_of-memory
-advance_operation-shape_of-memory t c = c.advance_expression-right.auto.memory ∙ c.advance_expression-left.auto.memory
-
 pub advance_operation-returns : goal.advance_operation-returns
 advance_operation-returns t c =
     λ p. binary_advances p c.args.fresh _ (c.operation_type-operand.ensures _)
@@ -251,15 +192,6 @@ advance_operation-returns t c =
 
 pub advance_pre-overflow_sub-below : goal.advance_pre-overflow_sub-below
 advance_pre-overflow_sub-below t c = (opened c.requires.ready.place).level-left
-
-pub advance_pre-overflow_add-first : goal.advance_pre-overflow_add-first
-advance_pre-overflow_add-first t c = omega (arith, (opened c.requires.ready.place).good.starts)
-
-pub advance_pre-bounds-under-here : goal.advance_pre-bounds-under-here
-advance_pre-bounds-under-here t c = (opened c.requires.ready.place).good.starts
-
-pub advance_pre-body-requires : goal.advance_pre-body-requires
-advance_pre-body-requires t c = (opened c.requires.ready.place).good.kind
 
 pub advance_pre-overflow_add-first-2 : goal.advance_pre-overflow_add-first-2
 advance_pre-overflow_add-first-2 t c = omega (arith, (opened c.requires.ready.place).good.ends, c.body.ensures)
@@ -283,9 +215,6 @@ advance_pre-put_cell-requires t c =
     let own = own-cell c.requires.ready.place c.requires.bound.0 (omega (arith, c.requires.bound)) in
     omega (arith, own.stands.fits, c.advance_expression-operand.auto.memory)
 
-pub advance_pre-shape_of-memory : goal.advance_pre-shape_of-memory
-advance_pre-shape_of-memory t c = c.put_cell.auto.memory ∙ c.advance_expression-operand.auto.memory
-
 pub advance_pre-returns : goal.advance_pre-returns
 advance_pre-returns t c =
     λ p. pre_advances p c.args.fresh c.requires.bound.0 c.requires.bound.1
@@ -294,9 +223,6 @@ advance_pre-returns t c =
 
 pub advance_present-overflow_sub-below : goal.advance_present-overflow_sub-below
 advance_present-overflow_sub-below t c = (opened c.requires.ready.place).level-left
-
-pub advance_present-overflow_add-first : goal.advance_present-overflow_add-first
-advance_present-overflow_add-first t c = omega (arith, (opened c.requires.ready.place).good.starts)
 
 pub advance_present-advance_expression-condition-requires : goal.advance_present-advance_expression-condition-requires
 advance_present-advance_expression-condition-requires t c =
@@ -314,9 +240,6 @@ pub advance_present-rest-end-requires : goal.advance_present-rest-end-requires
 advance_present-rest-end-requires t c =
     let p = c.requires.ready in
     three-arm_3 p (present-view p.place c.requires.at_value) c.advance_expression-condition.ensures c.advance_by_kind-yes.ensures
-
-pub advance_present-shape_of-memory-then-condition-eq1 : goal.advance_present-shape_of-memory-then-condition-eq1
-advance_present-shape_of-memory-then-condition-eq1 t c = c.rest-end.auto.memory ∙ c.advance_by_kind-yes.auto.memory ∙ c.advance_expression-condition.auto.memory
 
 pub advance_present-returns-then-condition-eq1 : goal.advance_present-returns-then-condition-eq1
 advance_present-returns-then-condition-eq1 t c =
@@ -337,9 +260,6 @@ advance_present-advance_by_kind-requires t c =
           c.advance_expression-condition.ensures c.rest-no.ensures,
     )
 
-pub advance_present-shape_of-memory : goal.advance_present-shape_of-memory
-advance_present-shape_of-memory t c = c.advance_by_kind.auto.memory ∙ c.rest-no.auto.memory ∙ c.advance_expression-condition.auto.memory
-
 pub advance_present-returns : goal.advance_present-returns
 advance_present-returns t c =
     λ p. present_advances_second p c.args.fresh c.requires.at_value
@@ -347,9 +267,6 @@ advance_present-returns t c =
 
 pub advance_reset-overflow_sub-below : goal.advance_reset-overflow_sub-below
 advance_reset-overflow_sub-below t c = (opened c.requires.ready.place).level-left
-
-pub advance_reset-overflow_add-first : goal.advance_reset-overflow_add-first
-advance_reset-overflow_add-first t c = omega (arith, (opened c.requires.ready.place).good.starts)
 
 pub advance_reset-advance_expression-condition-requires : goal.advance_reset-advance_expression-condition-requires
 advance_reset-advance_expression-condition-requires t c =
@@ -363,9 +280,6 @@ advance_reset-advance_by_kind-requires t c =
     let w = reset-view p.place c.requires.at_value in
     (deeper_by_kind p 2 c.decreases, two-ready_2 p w c.advance_expression-condition.ensures)
 
-pub advance_reset-shape_of-memory : goal.advance_reset-shape_of-memory
-advance_reset-shape_of-memory t c = c.advance_by_kind.auto.memory ∙ c.advance_expression-condition.auto.memory
-
 pub advance_reset-returns : goal.advance_reset-returns
 advance_reset-returns t c = λ p. reset_advances p c.args.fresh c.requires.at_value c.advance_expression-condition.ensures c.advance_by_kind.ensures
 
@@ -377,9 +291,3 @@ advance_expression-known_leaf-requires t c = leaf-of c.requires.place c.if-under
 
 pub advance_expression-returns-then-under-here-lt4 : goal.advance_expression-returns-then-under-here-lt4
 advance_expression-returns-then-under-here-lt4 t c = λ p. leaf_advances p c.args.fresh c.if-under-here-lt4.true c.known_leaf.ensures
-
-pub advance_expression-advance_by_kind-requires : goal.advance_expression-advance_by_kind-requires
-advance_expression-advance_by_kind-requires t c = (omega (arith, c.decreases), c.requires)
-
-pub advance_expression-shape_of-memory : goal.advance_expression-shape_of-memory
-advance_expression-shape_of-memory t c = c.advance_by_kind.auto.memory

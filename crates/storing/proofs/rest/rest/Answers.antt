@@ -2,9 +2,6 @@
 use Rattle.storing.proofs.Resting.{arm-room, arm-anew, arm-still}
 use Rattle.storing.proofs.rest.rest.Goals as goal
 
-pub restart-requires : goal.restart-requires
-restart-requires c = arm-room c.requires
-
 pub returns-then-fresh : goal.returns-then-fresh
 returns-then-fresh c = λ p. rw c.if-fresh.true (arm-anew p (c.restart.ensures (arm-room p)))
 

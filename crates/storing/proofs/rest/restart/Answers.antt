@@ -33,9 +33,6 @@ overflow_add-count c = omega (arith, (step c.loop-pending-test.true (c.loop-pend
 pub body-requires : goal.body-requires
 body-requires c = (step c.loop-pending-test.true (c.loop-pending.invariant.1 c.requires)).met.kind
 
-pub overflow_add-next : goal.overflow_add-next
-overflow_add-next c = omega (arith, (step c.loop-pending-test.true (c.loop-pending.invariant.1 c.requires)).met.ends, c.body.ensures)
-
 pub overflow_add-next-in-loop-pending : goal.overflow_add-next-in-loop-pending
 overflow_add-next-in-loop-pending c = omega (arith, (step c.loop-pending-test.true (c.loop-pending.invariant.1 c.requires)).met.ends, c.body.ensures)
 
@@ -49,9 +46,6 @@ loop-pending-preserved c = (
       rw (c.body.ensures, c.cells-count.ensures, c.operands.ensures, c.put_own.ensures)
       (step c.loop-pending-test.true (c.loop-pending.invariant.1 p)).rest,
 )
-
-pub shape_of-memory : goal.shape_of-memory
-shape_of-memory c = c.loop-pending.invariant.0
 
 pub returns : goal.returns
 returns c = λ p. ended p.place c.loop-pending-test.false (c.loop-pending.invariant.1 p)

@@ -22,11 +22,11 @@ pub record Ready (sheet memory words : List ℕ) (level asked : ℕ) (here : Pla
 
 -- it stands so over what is lent as one
 abbrev pub ReadyUnder : Fixed → (memory : List ℕ) → (level asked : ℕ) → Place → Type 0
-ReadyUnder under memory level asked here = Ready under.sheet.now memory under.words.now level asked here
+ReadyUnder fixed memory level asked here = Ready fixed.sheet.now memory fixed.words.now level asked here
 
 -- its kind byte
 abbrev pub kind_under : Fixed → Place → ℕ
-kind_under under here = get_or under.sheet.now here.at 0
+kind_under fixed here = get_or fixed.sheet.now here.at 0
 
 -- its value is known, and its cells are stored in place
 pub record Advances {sheet memory words : List ℕ} {level asked : ℕ} {here : Place}

@@ -21,51 +21,51 @@ pub struct Fixed<'a> {
 // without a call of its own.
 #[cycle(advancing)]
 pub fn advance_expression(
-    under: &Fixed,
+    fixed: &Fixed,
     memory: &mut [u8],
     level: usize,
     asked: u8,
     here: Place,
     fresh: bool,
 ) -> Valued
-    requires { ReadyUnder under.now memory.old level asked here }
-    ensures { (p : ReadyUnder under.now memory.old level asked here) → Advances p fresh result memory.new }
+    requires { ReadyUnder fixed.now memory.old level asked here }
+    ensures { (p : ReadyUnder fixed.now memory.old level asked here) → Advances p fresh result memory.new }
 {
-    if under.sheet[here.at] < 4 {
-        return leaf::known_leaf(under.sheet, under.words, here);
+    if fixed.sheet[here.at] < 4 {
+        return leaf::known_leaf(fixed.sheet, fixed.words, here);
     }
-    advance_by_kind(under, memory, level, asked, here, fresh)
+    advance_by_kind(fixed, memory, level, asked, here, fresh)
 }
 
 // An operation on one or two operands, kinds 4 to 11, which advance in turn.
 #[cycle(advancing)]
 fn advance_operation(
-    under: &Fixed,
+    fixed: &Fixed,
     memory: &mut [u8],
     level: usize,
     asked: u8,
     here: Place,
     fresh: bool,
 ) -> Valued
-    requires ready { ReadyUnder under.now memory.old level asked here }
-    requires bound { (4 ≤ kind_under under.now here) × (kind_under under.now here < 12) }
-    ensures { (p : ReadyUnder under.now memory.old level asked here) → Advances p fresh result memory.new }
+    requires ready { ReadyUnder fixed.now memory.old level asked here }
+    requires bound { (4 ≤ kind_under fixed.now here) × (kind_under fixed.now here < 12) }
+    ensures { (p : ReadyUnder fixed.now memory.old level asked here) → Advances p fresh result memory.new }
 {
-    let kind = under.sheet[here.at];
+    let kind = fixed.sheet[here.at];
     let operand = kinds::operation_type(kind);
     let below = level - 1;
     let first = Place {
         at: here.at + 1,
-        cell: here.cell,
+        ..here
     };
-    let left = advance_expression(under, memory, below, operand, first, fresh);
+    let left = advance_expression(fixed, memory, below, operand, first, fresh);
     if kind < 6 {
         return Valued {
             word: operations::unary(kind, left.word),
             end: left.end,
         };
     }
-    let right = advance_expression(under, memory, below, operand, left.end, fresh);
+    let right = advance_expression(fixed, memory, below, operand, left.end, fresh);
     Valued {
         word: operations::binary(kind, left.word, right.word),
         end: right.end,
@@ -75,25 +75,25 @@ fn advance_operation(
 // An if, kind 12: all three operands advance.
 #[cycle(advancing)]
 fn advance_conditional(
-    under: &Fixed,
+    fixed: &Fixed,
     memory: &mut [u8],
     level: usize,
     asked: u8,
     here: Place,
     fresh: bool,
 ) -> Valued
-    requires ready { ReadyUnder under.now memory.old level asked here }
-    requires at_value { kind_under under.now here ≡ 12 }
-    ensures { (p : ReadyUnder under.now memory.old level asked here) → Advances p fresh result memory.new }
+    requires ready { ReadyUnder fixed.now memory.old level asked here }
+    requires at_value { kind_under fixed.now here ≡ 12 }
+    ensures { (p : ReadyUnder fixed.now memory.old level asked here) → Advances p fresh result memory.new }
 {
     let below = level - 1;
     let first = Place {
         at: here.at + 1,
-        cell: here.cell,
+        ..here
     };
-    let condition = advance_expression(under, memory, below, 0, first, fresh);
-    let then = advance_expression(under, memory, below, asked, condition.end, fresh);
-    let otherwise = advance_expression(under, memory, below, asked, then.end, fresh);
+    let condition = advance_expression(fixed, memory, below, 0, first, fresh);
+    let then = advance_expression(fixed, memory, below, asked, condition.end, fresh);
+    let otherwise = advance_expression(fixed, memory, below, asked, then.end, fresh);
     Valued {
         word: operations::choose(condition.word == 1, then.word, otherwise.word),
         end: otherwise.end,
@@ -103,80 +103,79 @@ fn advance_conditional(
 // A present, kind 13: the condition's arm advances, and the other rests.
 #[cycle(advancing)]
 fn advance_present(
-    under: &Fixed,
+    fixed: &Fixed,
     memory: &mut [u8],
     level: usize,
     asked: u8,
     here: Place,
     fresh: bool,
 ) -> Valued
-    requires ready { ReadyUnder under.now memory.old level asked here }
-    requires at_value { kind_under under.now here ≡ 13 }
-    ensures { (p : ReadyUnder under.now memory.old level asked here) → Advances p fresh result memory.new }
+    requires ready { ReadyUnder fixed.now memory.old level asked here }
+    requires at_value { kind_under fixed.now here ≡ 13 }
+    ensures { (p : ReadyUnder fixed.now memory.old level asked here) → Advances p fresh result memory.new }
 {
     let below = level - 1;
     let first = Place {
         at: here.at + 1,
-        cell: here.cell,
+        ..here
     };
-    let condition = advance_expression(under, memory, below, 0, first, fresh);
+    let condition = advance_expression(fixed, memory, below, 0, first, fresh);
     if condition.word == 1 {
-        let yes = advance_by_kind(under, memory, below, asked, condition.end, fresh);
-        let end = rest::rest(under.sheet, yes.end, fresh, memory);
+        let yes = advance_by_kind(fixed, memory, below, asked, condition.end, fresh);
         return Valued {
             word: yes.word,
-            end,
+            end: rest::rest(fixed.sheet, yes.end, fresh, memory),
         };
     }
-    let no = rest::rest(under.sheet, condition.end, fresh, memory);
-    advance_by_kind(under, memory, below, asked, no, fresh)
+    let no = rest::rest(fixed.sheet, condition.end, fresh, memory);
+    advance_by_kind(fixed, memory, below, asked, no, fresh)
 }
 
 // A reset, kind 14: a true condition makes its operand fresh before that advances.
 #[cycle(advancing)]
 fn advance_reset(
-    under: &Fixed,
+    fixed: &Fixed,
     memory: &mut [u8],
     level: usize,
     asked: u8,
     here: Place,
     fresh: bool,
 ) -> Valued
-    requires ready { ReadyUnder under.now memory.old level asked here }
-    requires at_value { kind_under under.now here ≡ 14 }
-    ensures { (p : ReadyUnder under.now memory.old level asked here) → Advances p fresh result memory.new }
+    requires ready { ReadyUnder fixed.now memory.old level asked here }
+    requires at_value { kind_under fixed.now here ≡ 14 }
+    ensures { (p : ReadyUnder fixed.now memory.old level asked here) → Advances p fresh result memory.new }
 {
     let below = level - 1;
     let first = Place {
         at: here.at + 1,
-        cell: here.cell,
+        ..here
     };
-    let condition = advance_expression(under, memory, below, 0, first, fresh);
+    let condition = advance_expression(fixed, memory, below, 0, first, fresh);
     let anew = (condition.word == 1) | fresh;
-    advance_by_kind(under, memory, below, asked, condition.end, anew)
+    advance_by_kind(fixed, memory, below, asked, condition.end, anew)
 }
 
 // A pre, kinds 15 and 16: its cell is read, then its operand advances, whose value the cell gets.
 #[cycle(advancing)]
 fn advance_pre(
-    under: &Fixed,
+    fixed: &Fixed,
     memory: &mut [u8],
     level: usize,
     asked: u8,
     here: Place,
     fresh: bool,
 ) -> Valued
-    requires ready { ReadyUnder under.now memory.old level asked here }
-    requires bound { (15 ≤ kind_under under.now here) × (kind_under under.now here < 17) }
-    ensures { (p : ReadyUnder under.now memory.old level asked here) → Advances p fresh result memory.new }
+    requires ready { ReadyUnder fixed.now memory.old level asked here }
+    requires bound { (15 ≤ kind_under fixed.now here) × (kind_under fixed.now here < 17) }
+    ensures { (p : ReadyUnder fixed.now memory.old level asked here) → Advances p fresh result memory.new }
 {
     let below = level - 1;
     let first = Place {
-        at: here.at + 1 + kinds::body(under.sheet[here.at]),
+        at: here.at + 1 + kinds::body(fixed.sheet[here.at]),
         cell: here.cell + 1,
     };
-    let word = cells::pre_word(under.sheet, memory, here.at, here.cell, fresh);
-    let operand = advance_expression(under, memory, below, asked, first, fresh);
+    let word = cells::pre_word(fixed.sheet, memory, here.at, here.cell, fresh);
+    let operand = advance_expression(fixed, memory, below, asked, first, fresh);
     memory::put_cell(
         memory,
         here.cell,
@@ -192,16 +191,16 @@ fn advance_pre(
 // operands rest. Its cell, which is read first, gets the state whose body ran.
 #[cycle(advancing)]
 fn advance_machine(
-    under: &Fixed,
+    fixed: &Fixed,
     memory: &mut [u8],
     level: usize,
     asked: u8,
     here: Place,
     fresh: bool,
 ) -> Valued
-    requires ready { ReadyUnder under.now memory.old level asked here }
-    requires at_value { kind_under under.now here ≡ 19 }
-    ensures { (p : ReadyUnder under.now memory.old level asked here) → Advances p fresh result memory.new }
+    requires ready { ReadyUnder fixed.now memory.old level asked here }
+    requires at_value { kind_under fixed.now here ≡ 19 }
+    ensures { (p : ReadyUnder fixed.now memory.old level asked here) → Advances p fresh result memory.new }
 {
     let below = level - 1;
     let first = Place {
@@ -209,15 +208,15 @@ fn advance_machine(
         cell: here.cell + 1,
     };
     let state = cells::is_second_state(memory, here.cell, fresh);
-    let start = rest::rest_if(state, under.sheet, first, fresh, memory);
-    let condition = advance_expression(under, memory, below, 0, start, fresh);
-    let bodies = rest::rest_if(!state, under.sheet, condition.end, fresh, memory);
+    let start = rest::rest_if(state, fixed.sheet, first, fresh, memory);
+    let condition = advance_expression(fixed, memory, below, 0, start, fresh);
+    let bodies = rest::rest_if(!state, fixed.sheet, condition.end, fresh, memory);
     let holds = condition.word == 1;
     let second = state != holds;
-    let run = rest::rest_if(second, under.sheet, bodies, fresh, memory);
+    let run = rest::rest_if(second, fixed.sheet, bodies, fresh, memory);
     let anew = holds | fresh;
-    let body = advance_by_kind(under, memory, below, asked, run, anew);
-    let end = rest::rest_if(!second, under.sheet, body.end, fresh, memory);
+    let body = advance_by_kind(fixed, memory, below, asked, run, anew);
+    let end = rest::rest_if(!second, fixed.sheet, body.end, fresh, memory);
     memory::put_cell(memory, here.cell, Cell::Started(Datum::Boolean(second)));
     Valued {
         word: body.word,
@@ -229,22 +228,22 @@ fn advance_machine(
 // machine are told from it here, as in `value_held`.
 #[cycle(advancing)]
 fn advance_held(
-    under: &Fixed,
+    fixed: &Fixed,
     memory: &mut [u8],
     level: usize,
     asked: u8,
     here: Place,
     fresh: bool,
 ) -> Valued
-    requires ready { ReadyUnder under.now memory.old level asked here }
-    requires bound { 17 ≤ kind_under under.now here }
-    ensures { (p : ReadyUnder under.now memory.old level asked here) → Advances p fresh result memory.new }
+    requires ready { ReadyUnder fixed.now memory.old level asked here }
+    requires bound { 17 ≤ kind_under fixed.now here }
+    ensures { (p : ReadyUnder fixed.now memory.old level asked here) → Advances p fresh result memory.new }
 {
-    if kinds::LAST <= under.sheet[here.at] {
-        if under.sheet[here.at] == kinds::LAST {
-            return lasts::value_last(under.sheet, under.words, here);
+    if kinds::LAST <= fixed.sheet[here.at] {
+        if fixed.sheet[here.at] == kinds::LAST {
+            return lasts::value_last(fixed.sheet, fixed.words, here);
         }
-        return advance_machine(under, memory, level, asked, here, fresh);
+        return advance_machine(fixed, memory, level, asked, here, fresh);
     }
     let below = level - 1;
     let first = Place {
@@ -253,8 +252,8 @@ fn advance_held(
     };
     let seen = cells::is_seen(memory, here.cell, fresh);
     let held = memory::word_in(memory, here.cell);
-    let left = advance_expression(under, memory, below, asked, first, fresh);
-    let right = advance_expression(under, memory, below, asked, left.end, fresh);
+    let left = advance_expression(fixed, memory, below, asked, first, fresh);
+    let right = advance_expression(fixed, memory, below, asked, left.end, fresh);
     memory::put_cell(
         memory,
         here.cell,
@@ -269,23 +268,23 @@ fn advance_held(
 // An expression by its kind.
 #[cycle(advancing)]
 fn advance_by_kind(
-    under: &Fixed,
+    fixed: &Fixed,
     memory: &mut [u8],
     level: usize,
     asked: u8,
     here: Place,
     fresh: bool,
 ) -> Valued
-    requires { ReadyUnder under.now memory.old level asked here }
-    ensures { (p : ReadyUnder under.now memory.old level asked here) → Advances p fresh result memory.new }
+    requires { ReadyUnder fixed.now memory.old level asked here }
+    ensures { (p : ReadyUnder fixed.now memory.old level asked here) → Advances p fresh result memory.new }
 {
-    match under.sheet[here.at] {
-        0..=3 => leaf::known_leaf(under.sheet, under.words, here),
-        4..=11 => advance_operation(under, memory, level, asked, here, fresh),
-        12 => advance_conditional(under, memory, level, asked, here, fresh),
-        13 => advance_present(under, memory, level, asked, here, fresh),
-        14 => advance_reset(under, memory, level, asked, here, fresh),
-        15 | 16 => advance_pre(under, memory, level, asked, here, fresh),
-        _ => advance_held(under, memory, level, asked, here, fresh),
+    match fixed.sheet[here.at] {
+        0..=3 => leaf::known_leaf(fixed.sheet, fixed.words, here),
+        4..=11 => advance_operation(fixed, memory, level, asked, here, fresh),
+        12 => advance_conditional(fixed, memory, level, asked, here, fresh),
+        13 => advance_present(fixed, memory, level, asked, here, fresh),
+        14 => advance_reset(fixed, memory, level, asked, here, fresh),
+        15 | 16 => advance_pre(fixed, memory, level, asked, here, fresh),
+        _ => advance_held(fixed, memory, level, asked, here, fresh),
     }
 }

@@ -41,8 +41,8 @@ advance_conditional-returns t c =
     c.advance_expression-condition.ensures c.advance_expression-then.ensures c.advance_expression-otherwise.ensures
     c.choose.ensures
 
-pub advance_by_kind-bounds-under-here : goal.advance_by_kind-bounds-under-here
-advance_by_kind-bounds-under-here t c = (opened c.requires.place).good.starts
+pub advance_by_kind-bounds-fixed-here : goal.advance_by_kind-bounds-fixed-here
+advance_by_kind-bounds-fixed-here t c = (opened c.requires.place).good.starts
 
 pub advance_by_kind-known_leaf-requires : goal.advance_by_kind-known_leaf-requires
 advance_by_kind-known_leaf-requires t c = leaf-of c.requires.place (omega arith)
@@ -51,14 +51,14 @@ pub advance_by_kind-returns-in-0-to-3 : goal.advance_by_kind-returns-in-0-to-3
 advance_by_kind-returns-in-0-to-3 t c = λ p. leaf_advances p c.args.fresh (omega arith) c.known_leaf.ensures
 
 pub advance_held-value_last-requires : goal.advance_held-value_last-requires
-advance_held-value_last-requires t c = last_of c.requires.ready.place c.if-under-here-eq-LAST.true
+advance_held-value_last-requires t c = last_of c.requires.ready.place c.if-fixed-here-eq-LAST.true
 
-pub advance_held-returns-then-under-here-eq-LAST : goal.advance_held-returns-then-under-here-eq-LAST
-advance_held-returns-then-under-here-eq-LAST t c = λ p. last_advances p c.args.fresh c.if-under-here-eq-LAST.true c.value_last.ensures
+pub advance_held-returns-then-fixed-here-eq-LAST : goal.advance_held-returns-then-fixed-here-eq-LAST
+advance_held-returns-then-fixed-here-eq-LAST t c = λ p. last_advances p c.args.fresh c.if-fixed-here-eq-LAST.true c.value_last.ensures
 
 pub advance_held-advance_machine-requires : goal.advance_held-advance_machine-requires
 advance_held-advance_machine-requires t c =
-    let is = only-machine c.if-under-here-ge-LAST.true (opened c.requires.ready.place).good.kind c.if-under-here-eq-LAST.false in
+    let is = only-machine c.if-fixed-here-ge-LAST.true (opened c.requires.ready.place).good.kind c.if-fixed-here-eq-LAST.false in
     (omega (arith, c.decreases), (c.requires.ready, is))
 
 pub advance_held-overflow_sub-below : goal.advance_held-overflow_sub-below
@@ -70,34 +70,34 @@ advance_held-overflow_add-first-2 t c = omega (arith, (opened c.requires.ready.p
 pub advance_held-is_seen-seen-requires : goal.advance_held-is_seen-seen-requires
 advance_held-is_seen-seen-requires t c =
     let p = c.requires.ready.place in
-    (own-cell p (omega (arith, c.requires.bound)) (omega (arith, c.if-under-here-ge-LAST.false))).stands.fits
+    (own-cell p (omega (arith, c.requires.bound)) (omega (arith, c.if-fixed-here-ge-LAST.false))).stands.fits
 
 pub advance_held-word_in-held-requires : goal.advance_held-word_in-held-requires
 advance_held-word_in-held-requires t c =
     let p = c.requires.ready.place in
-    (own-cell p (omega (arith, c.requires.bound)) (omega (arith, c.if-under-here-ge-LAST.false))).stands.fits
+    (own-cell p (omega (arith, c.requires.bound)) (omega (arith, c.if-fixed-here-ge-LAST.false))).stands.fits
 
 pub advance_held-advance_expression-left-requires : goal.advance_held-advance_expression-left-requires
 advance_held-advance_expression-left-requires t c =
     let p = c.requires.ready in
-    let w = fby-view p.place (only-fby c.requires.bound c.if-under-here-ge-LAST.false) in
+    let w = fby-view p.place (only-fby c.requires.bound c.if-fixed-here-ge-LAST.false) in
     (deeper p 2 c.decreases, two_ready p w)
 
 pub advance_held-advance_expression-right-requires : goal.advance_held-advance_expression-right-requires
 advance_held-advance_expression-right-requires t c =
     let p = c.requires.ready in
-    let w = fby-view p.place (only-fby c.requires.bound c.if-under-here-ge-LAST.false) in
+    let w = fby-view p.place (only-fby c.requires.bound c.if-fixed-here-ge-LAST.false) in
     (deeper p 2 c.decreases, two-ready_2 p w c.advance_expression-left.ensures)
 
 pub advance_held-put_cell-requires : goal.advance_held-put_cell-requires
 advance_held-put_cell-requires t c =
     let p = c.requires.ready.place in
-    let own = own-cell p (omega (arith, c.requires.bound)) (omega (arith, c.if-under-here-ge-LAST.false)) in
+    let own = own-cell p (omega (arith, c.requires.bound)) (omega (arith, c.if-fixed-here-ge-LAST.false)) in
     omega (arith, own.stands.fits, c.advance_expression-right.auto.memory, c.advance_expression-left.auto.memory)
 
 pub advance_held-returns : goal.advance_held-returns
 advance_held-returns t c =
-    λ p. fby_advances p c.args.fresh (only-fby c.requires.bound c.if-under-here-ge-LAST.false)
+    λ p. fby_advances p c.args.fresh (only-fby c.requires.bound c.if-fixed-here-ge-LAST.false)
     c.is_seen-seen.ensures c.word_in-held.ensures c.advance_expression-left.ensures c.advance_expression-right.ensures
     c.datum_of.ensures c.put_cell.ensures c.choose.ensures
 
@@ -236,15 +236,15 @@ advance_present-advance_by_kind-yes-requires t c =
     let w = present-view p.place c.requires.at_value in
     (deeper_by_kind p 2 c.decreases, three-ready_2 p w c.advance_expression-condition.ensures)
 
-pub advance_present-rest-end-requires : goal.advance_present-rest-end-requires
-advance_present-rest-end-requires t c =
+pub advance_present-rest-requires : goal.advance_present-rest-requires
+advance_present-rest-requires t c =
     let p = c.requires.ready in
     three-arm_3 p (present-view p.place c.requires.at_value) c.advance_expression-condition.ensures c.advance_by_kind-yes.ensures
 
 pub advance_present-returns-then-condition-eq1 : goal.advance_present-returns-then-condition-eq1
 advance_present-returns-then-condition-eq1 t c =
     λ p. present_advances_first p c.args.fresh c.requires.at_value
-    c.advance_expression-condition.ensures c.if-condition-eq1.true c.advance_by_kind-yes.ensures c.rest-end.ensures
+    c.advance_expression-condition.ensures c.if-condition-eq1.true c.advance_by_kind-yes.ensures c.rest.ensures
 
 pub advance_present-rest-no-requires : goal.advance_present-rest-no-requires
 advance_present-rest-no-requires t c =
@@ -283,11 +283,11 @@ advance_reset-advance_by_kind-requires t c =
 pub advance_reset-returns : goal.advance_reset-returns
 advance_reset-returns t c = λ p. reset_advances p c.args.fresh c.requires.at_value c.advance_expression-condition.ensures c.advance_by_kind.ensures
 
-pub advance_expression-bounds-under-here : goal.advance_expression-bounds-under-here
-advance_expression-bounds-under-here t c = (opened c.requires.place).good.starts
+pub advance_expression-bounds-fixed-here : goal.advance_expression-bounds-fixed-here
+advance_expression-bounds-fixed-here t c = (opened c.requires.place).good.starts
 
 pub advance_expression-known_leaf-requires : goal.advance_expression-known_leaf-requires
-advance_expression-known_leaf-requires t c = leaf-of c.requires.place c.if-under-here-lt4.true
+advance_expression-known_leaf-requires t c = leaf-of c.requires.place c.if-fixed-here-lt4.true
 
-pub advance_expression-returns-then-under-here-lt4 : goal.advance_expression-returns-then-under-here-lt4
-advance_expression-returns-then-under-here-lt4 t c = λ p. leaf_advances p c.args.fresh c.if-under-here-lt4.true c.known_leaf.ensures
+pub advance_expression-returns-then-fixed-here-lt4 : goal.advance_expression-returns-then-fixed-here-lt4
+advance_expression-returns-then-fixed-here-lt4 t c = λ p. leaf_advances p c.args.fresh c.if-fixed-here-lt4.true c.known_leaf.ensures

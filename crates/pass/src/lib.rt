@@ -7,7 +7,9 @@ ghost use Rattle.leaves.specs.Words.{fixed_words};
 ghost use Rattle.rounds.specs.Running.{Holds};
 ghost use Rattle.pass.specs.Along.{Along, passed_of};
 
+use expression::Basis;
 use sheet_expressions::map;
+use sheet_walk::Place;
 use wires::Wires;
 
 // The pass along `list`: the wire at each position gets what its expression yields under the values so far.
@@ -31,7 +33,13 @@ pub fn pass(
         let w = list[p] as usize;
         let at = map::place(places[w]);
         let cell = numbers::length_of(firsts[w]);
-        let worth = expression::value_of_wire(sheet, memory, known, words, types[w], at, cell);
+        let basis = Basis {
+            sheet,
+            memory,
+            words,
+            known,
+        };
+        let worth = expression::value_of_wire(&basis, types[w], Place { at, cell });
         known = rounds::put_value(worth, w, known, words);
         p += 1;
     }

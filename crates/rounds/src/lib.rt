@@ -10,9 +10,11 @@ ghost use Rattle.leaves.specs.Words.{fixed_words};
 ghost use Rattle.rounds.specs.Running.{RunningReads, Holds, round_of, Before, Put};
 ghost use Rattle.rounds.specs.Outputs.{Below, words_of};
 
+use expression::Basis;
 use kernel::Value;
 use sheet::data;
 use sheet_expressions::map;
+use sheet_walk::Place;
 use wires::Wires;
 
 // What the rounds of an instant come to: the known wires, and the rounds that were made.
@@ -63,7 +65,13 @@ fn round(
         let w = end - 1;
         let at = map::place(places[w]);
         let cell = numbers::length_of(firsts[w]);
-        let worth = expression::value_of_wire(sheet, memory, before, words, types[w], at, cell);
+        let basis = Basis {
+            sheet,
+            memory,
+            words,
+            known: before,
+        };
+        let worth = expression::value_of_wire(&basis, types[w], Place { at, cell });
         grown = put_value(worth, w, grown, words);
         left = left.without(w);
         end = left.end() as usize;

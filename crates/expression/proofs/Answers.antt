@@ -1,5 +1,6 @@
 -- What each function of the value cycle returns holds of every placement, from what its calls answer: one law to each return.
-use Prim.Native.Nat.{ℕ, ◌+◌, ◌≤◌, ◌<◌}
+use Prim.Native.Nat.{ℕ, ◌+◌, ◌-◌, ◌*◌, ◌≤◌, ◌<◌}
+use native.Mathlib.Omega.{arith}
 use mathlib.Core.Path.{◌≡◌, refl, subst, ◌∙◌}
 use mathlib.Core.Bool.{Bool, true, false, ◌||◌, cond}
 use mathlib.Core.List.{List}
@@ -7,7 +8,7 @@ use Rattle.std.specs.Prelude.{Option, Some, None}
 use lib.Dec.{eqb, ltb}
 use lib.ListN.{get_or}
 use borrow.Author.Tests.{ne_eqb, ltb-true, ltb-false}
-use Rattle.sheet.specs.Kinds.{body_of}
+use Rattle.sheet.specs.Kinds.{body_of, operands_of}
 use Rattle.sheet.specs.Memory.{cell_word_at}
 use Rattle.sheet.specs.Readings.{body_at}
 use Rattle.sheet_walk.specs.declared.Place.{Place}
@@ -18,9 +19,9 @@ use Rattle.leaves.specs.declared.Valued.{Valued}
 use Rattle.leaves.specs.Words.{is_seen, pre_word}
 use Rattle.expression.specs.Places.{Placement, whole_value, Gives, Yields, unknown, known}
 use Rattle.leaves.specs.Leaves.{known_by, leaf_known, leaf_valued, last_valued}
-use Rattle.expression.proofs.Views.{placed, readable, own-types}
+use Rattle.expression.proofs.Views.{Operand, opened, placed, readable, own-types}
 use Rattle.expression.proofs.Views.{unary-view, binary-view, conditional-view, present-view, reset-view, fby-view, pre-view}
-use Rattle.expression.proofs.Values.{as_known, as_unknown, Answers, Walked, by_value, by-walk, value-behind, walk-behind}
+use Rattle.expression.proofs.Values.{as_known, as_unknown, Answers, Walked, by_value, by-walk, after-value, after-walk, value-behind, walk-behind}
 use Rattle.expression.proofs.Values.{unary-value, binary-value, conditional-value, present-value, reset-value}
 use Rattle.expression.proofs.Giving.{unary-gives, binary-gives, conditional-gives, present-gives-first, present-gives-second}
 use Rattle.expression.proofs.Giving.{reset-gives, fby-left, fby-gives-left, fby-gives-cell, pre-gives, leaf-value, leaf-gives, last-gives}
@@ -29,6 +30,15 @@ module _ {sheet memory words : List ℕ} {bits level asked at cell : ℕ}
     (p : Placement sheet memory words bits level asked at cell) (fresh : Bool) where
   abbrev kind : ℕ
   kind = get_or sheet at 0
+
+  -- the measure falls to an operand, whether it is valued at all or by its kind
+  pub deeper : (step : ℕ) {n : ℕ} → 5 * level + step ≡ n → {t a k : ℕ} → Operand p t a k
+      → (5 * (level - 1) + 4 < n) × ((x : ℕ) × Placement sheet memory words bits (level - 1) x a k)
+  deeper step e o = (omega (arith, e, (opened p).level-left), (_, placed p o))
+
+  pub deeper_by_kind : (step : ℕ) {n : ℕ} → 5 * level + step ≡ n → {t a k : ℕ} → Operand p t a k
+      → (5 * (level - 1) + 3 < n) × ((x : ℕ) × Placement sheet memory words bits (level - 1) x a k)
+  deeper_by_kind step e o = (omega (arith, e, (opened p).level-left), (_, placed p o))
 
   pub leaf_yields : kind < 4 → {r : Option Valued} → r ≡ leaf_valued sheet words bits (record { at = at; cell = cell }) → Yields p fresh r
   leaf_yields below is = rw is (by (known_by bits kind (body_at sheet at)) refl)
@@ -63,6 +73,9 @@ module _ {sheet memory words : List ℕ} {bits level asked at cell : ℕ}
           let w = unary-view p _ (own-types p) low high in
           known (unary-gives p fresh _ (own-types p) low high (as_known (ha _ (placed p w.first)) there) is)
 
+      pub binary-second : (low : 6 ≤ kind) (high : kind < 12) → Operand p (get_or (operands_of kind asked) 1 0) u.end.at u.end.cell
+      binary-second low high = let w = binary-view p _ (own-types p) low high in after-value p w.first ha there w.second
+
       module _ (low : 6 ≤ kind) (high : kind < 12) {b : Option Valued} (hb : Answers p u.end.at u.end.cell fresh b) where
         left_gives : Gives (placed p (binary-view p _ (own-types p) low high).first) fresh u.word u.end.at u.end.cell
         left_gives = as_known (ha _ (placed p (binary-view p _ (own-types p) low high).first)) there
@@ -84,21 +97,28 @@ module _ {sheet memory words : List ℕ} {bits level asked at cell : ℕ}
         let w = conditional-view p of in
         unknown (conditional-value p fresh w ∙ rw (as_unknown (hc _ (placed p w.first)) ends))
 
-    module _ {u : Valued} (holds : c ≡ Some u) {a : Option Valued} (ha : Answers p u.end.at u.end.cell fresh a) where
-      conditional-first : Gives (placed p (conditional-view p of).first) fresh u.word u.end.at u.end.cell
-      conditional-first = as_known (hc _ (placed p (conditional-view p of).first)) holds
+    pub conditional-second : {u : Valued} → c ≡ Some u → Operand p asked u.end.at u.end.cell
+    conditional-second holds = let w = conditional-view p of in after-value p w.first hc holds w.second
 
-      conditional-second : Yields (placed p (conditional-view p of).second) fresh a
-      conditional-second = value-behind p (by_value p conditional-first) ha (conditional-view p of).second
+    module _ {u : Valued} (holds : c ≡ Some u) {a : Option Valued} (ha : Answers p u.end.at u.end.cell fresh a) where
+      conditional_condition : Gives (placed p (conditional-view p of).first) fresh u.word u.end.at u.end.cell
+      conditional_condition = as_known (hc _ (placed p (conditional-view p of).first)) holds
+
+      conditional_yields : Yields (placed p (conditional-view p of).second) fresh a
+      conditional_yields = value-behind p (by_value p conditional_condition) ha (conditional-view p of).second
 
       pub conditional-unknown-then : a ≡ None → Yields p fresh None
       conditional-unknown-then ends =
           let w = conditional-view p of in
-          unknown (conditional-value p fresh w ∙ rw (conditional-first.value, as_unknown conditional-second ends))
+          unknown (conditional-value p fresh w ∙ rw (conditional_condition.value, as_unknown conditional_yields ends))
+
+      pub conditional-third : {x : Valued} → a ≡ Some x → Operand p asked x.end.at x.end.cell
+      unfolding conditional-second
+      conditional-third there = after-value p (conditional-second holds) ha there (conditional-view p of).third
 
       module _ {x : Valued} (there : a ≡ Some x) {b : Option Valued} (hb : Answers p x.end.at x.end.cell fresh b) where
         conditional_then : Gives (placed p (conditional-view p of).second) fresh x.word x.end.at x.end.cell
-        conditional_then = as_known conditional-second there
+        conditional_then = as_known conditional_yields there
 
         conditional_third : Yields (placed p (conditional-view p of).third) fresh b
         conditional_third = value-behind p (by_value p conditional_then) hb (conditional-view p of).third
@@ -106,12 +126,12 @@ module _ {sheet memory words : List ℕ} {bits level asked at cell : ℕ}
         pub conditional-unknown-otherwise : b ≡ None → Yields p fresh None
         conditional-unknown-otherwise ends =
             unknown (conditional-value p fresh (conditional-view p of)
-            ∙ rw (conditional-first.value, conditional_then.value, as_unknown conditional_third ends))
+            ∙ rw (conditional_condition.value, conditional_then.value, as_unknown conditional_third ends))
 
         pub conditional-answer : {y : Valued} → b ≡ Some y → {v : ℕ} → v ≡ cond (eqb u.word 1) x.word y.word
             → Yields p fresh (Some (record { word = v; end = y.end }))
         conditional-answer here is =
-            known (conditional-gives p fresh of conditional-first conditional_then (as_known conditional_third here) is)
+            known (conditional-gives p fresh of conditional_condition conditional_then (as_known conditional_third here) is)
 
   module _ (of : kind ≡ 13) {c : Option Valued} (hc : Answers p (at + 1) cell fresh c) where
     pub present-unknown : c ≡ None → Yields p fresh None
@@ -120,12 +140,23 @@ module _ {sheet memory words : List ℕ} {bits level asked at cell : ℕ}
         unknown (present-value p fresh w ∙ rw (as_unknown (hc _ (placed p w.first)) ends))
 
     module _ {u : Valued} (there : c ≡ Some u) where
+      pub present-second : Operand p asked u.end.at u.end.cell
+      present-second = let w = present-view p of in after-value p w.first hc there w.second
+
+      pub present-third : {a : Place} → Walked p u.end.at u.end.cell a → Operand p asked a.at a.cell
+      unfolding present-second
+      present-third ha = after-walk p present-second ha (present-view p of).third
+
       present_condition : Gives (placed p (present-view p of).first) fresh u.word u.end.at u.end.cell
       present_condition = as_known (hc _ (placed p (present-view p of).first)) there
 
       module _ (holds : u.word ≡ 1) {a : Option Valued} (ha : Answers p u.end.at u.end.cell fresh a) where
         present-arm : Yields (placed p (present-view p of).second) fresh a
         present-arm = value-behind p (by_value p present_condition) ha (present-view p of).second
+
+        pub present-unchosen : {x : Valued} → a ≡ Some x → Operand p asked x.end.at x.end.cell
+        unfolding present-second
+        present-unchosen here = after-value p present-second ha here (present-view p of).third
 
         pub present-unknown-arm : a ≡ None → Yields p fresh None
         present-unknown-arm ends =
@@ -157,6 +188,9 @@ module _ {sheet memory words : List ℕ} {bits level asked at cell : ℕ}
         let w = reset-view p of in
         unknown (reset-value p fresh w ∙ rw (as_unknown (hc _ (placed p w.first)) ends))
 
+    pub reset-second : {u : Valued} → c ≡ Some u → Operand p asked u.end.at u.end.cell
+    reset-second there = let w = reset-view p of in after-value p w.first hc there w.second
+
     pub reset-answer : {u : Valued} → c ≡ Some u → {a : Option Valued} → Answers p u.end.at u.end.cell (eqb u.word 1 || fresh) a
         → Yields p fresh a
     reset-answer {u} there {a} ha =
@@ -177,9 +211,15 @@ module _ {sheet memory words : List ℕ} {bits level asked at cell : ℕ}
         let e = by-walk p w.first (ha (readable p w.first)) in
         known (rw is (fby-gives-cell p fresh of seen (by-walk p w.second (walk-behind p e hb w.second))))
 
+    pub fby-second-walked : {a : Place} → Walked p (at + 1) (cell + 1) a → Operand p asked a.at a.cell
+    fby-second-walked ha = let w = fby-view p of in after-walk p w.first ha w.second
+
     module _ (unseen : is_seen fresh memory cell ≡ false) {a : Option Valued} (ha : Answers p (at + 1) (cell + 1) fresh a) where
       pub fby-unknown : a ≡ None → Yields p fresh None
       fby-unknown ends = unknown (fby-left p fresh of unseen ∙ as_unknown (ha _ (placed p (fby-view p of).first)) ends)
+
+      pub fby-second : {x : Valued} → a ≡ Some x → Operand p asked x.end.at x.end.cell
+      fby-second there = let w = fby-view p of in after-value p w.first ha there w.second
 
       pub fby-answer-left : {x : Valued} → a ≡ Some x → {b : Place} → Walked p x.end.at x.end.cell b
           → Yields p fresh (Some (record { word = x.word; end = b }))

@@ -6,15 +6,18 @@ use Rattle.sheet.specs.declared.kinds.Kind.TheVariants.{BooleanConstant, NumberC
 use Rattle.sheet.specs.KindBytes.{byte_of}
 use native.Mathlib.Omega.{arith}
 use borrow.Author.Tests.{ltb-true}
-use Rattle.expression.proofs.Views.{opened, placed, readable, leaf-of, last_of, own-cell, state-cell}
+use Rattle.expression.proofs.Views.{opened, readable, leaf-of, last_of, own-cell, state-cell}
 use Rattle.expression.proofs.Views.{own-types, operation_first, binary-view, conditional-view, present-view, reset-view, fby-view, machine-view}
 use Rattle.expression.proofs.Values.{after-value, after-walk}
 use Rattle.expression.proofs.Machines.{asked_condition, condition_unknown, other_condition, first_body_lem, running_body}
 use Rattle.expression.proofs.Machines.{body-unknown, other-body, machine-answer}
-use Rattle.expression.proofs.Answers.{leaf_yields, last_yields, operation_unknown, unary-answer, binary-unknown, binary-answer}
-use Rattle.expression.proofs.Answers.{conditional-unknown, conditional-unknown-then, conditional-unknown-otherwise, conditional-answer}
-use Rattle.expression.proofs.Answers.{present-unknown, present-unknown-arm, present-answer-first, present-answer-second}
-use Rattle.expression.proofs.Answers.{reset-unknown, reset-answer, fby-unknown, fby-answer-left, fby-answer-cell}
+use Rattle.expression.proofs.Answers.{deeper, deeper_by_kind, leaf_yields, last_yields}
+use Rattle.expression.proofs.Answers.{operation_unknown, unary-answer, binary-unknown, binary-answer}
+use Rattle.expression.proofs.Answers.{conditional-second, conditional-third, conditional-unknown, conditional-unknown-then}
+use Rattle.expression.proofs.Answers.{conditional-unknown-otherwise, conditional-answer}
+use Rattle.expression.proofs.Answers.{present-second, present-third, present-unchosen, present-unknown, present-unknown-arm, present-answer-first, present-answer-second}
+use Rattle.expression.proofs.Answers.{reset-second, reset-unknown, reset-answer}
+use Rattle.expression.proofs.Answers.{fby-unknown, fby-answer-left, fby-answer-cell}
 use Rattle.expression.proofs.value.+valuing.Goals as goal
 
 leaf-few : {kind : Kind} → (kind ≡ BooleanConstant) ⊎ (kind ≡ NumberConstant) ⊎ (kind ≡ Wire) ⊎ (kind ≡ Input) → byte_of kind < 4
@@ -29,7 +32,7 @@ value_conditional-overflow_sub-below t c = (opened c.requires.placed.1).level-le
 pub value_conditional-value_expression-requires : goal.value_conditional-value_expression-requires
 value_conditional-value_expression-requires t c =
     let p = c.requires.placed.1 in
-    (omega (arith, c.decreases, (opened p).level-left), (_, placed p (conditional-view p c.requires.at_value).first))
+    deeper p c.args.fresh 2 c.decreases (conditional-view p c.requires.at_value).first
 
 pub value_conditional-returns-in_err-condition : goal.value_conditional-returns-in_err-condition
 value_conditional-returns-in_err-condition t c =
@@ -39,9 +42,8 @@ value_conditional-returns-in_err-condition t c =
 pub value_conditional-value_expression-requires-2 : goal.value_conditional-value_expression-requires-2
 value_conditional-value_expression-requires-2 t c =
     let p = c.requires.placed.1 in
-    let w = conditional-view p c.requires.at_value in
-    let second = after-value p w.first c.value_expression.ensures c.in_ok-condition.was w.second in
-    (omega (arith, c.decreases, (opened p).level-left), (_, placed p second))
+    deeper p c.args.fresh 2 c.decreases
+    (conditional-second p c.args.fresh c.requires.at_value c.value_expression.ensures c.in_ok-condition.was)
 
 pub value_conditional-returns-in_err-then : goal.value_conditional-returns-in_err-then
 value_conditional-returns-in_err-then t c =
@@ -52,10 +54,9 @@ value_conditional-returns-in_err-then t c =
 pub value_conditional-value_expression-requires-3 : goal.value_conditional-value_expression-requires-3
 value_conditional-value_expression-requires-3 t c =
     let p = c.requires.placed.1 in
-    let w = conditional-view p c.requires.at_value in
-    let second = after-value p w.first c.value_expression.ensures c.in_ok-condition.was w.second in
-    let third = after-value p second c.value_expression-2.ensures c.in_ok-then.was w.third in
-    (omega (arith, c.decreases, (opened p).level-left), (_, placed p third))
+    deeper p c.args.fresh 2 c.decreases
+    (conditional-third p c.args.fresh c.requires.at_value c.value_expression.ensures c.in_ok-condition.was
+    c.value_expression-2.ensures c.in_ok-then.was)
 
 pub value_conditional-returns-in_err-otherwise : goal.value_conditional-returns-in_err-otherwise
 value_conditional-returns-in_err-otherwise t c =
@@ -94,8 +95,8 @@ value_machine-skip_if-asked-requires t c =
 pub value_machine-value_expression-requires : goal.value_machine-value_expression-requires
 value_machine-value_expression-requires t c =
     let p = c.requires.placed.1 in
-    let condition = asked_condition p c.requires.at_value c.args.fresh c.is_second_state-state.ensures c.skip_if-asked.ensures in
-    (omega (arith, c.decreases, (opened p).level-left), (_, placed p condition))
+    deeper p c.args.fresh 1 c.decreases
+    (asked_condition p c.requires.at_value c.args.fresh c.is_second_state-state.ensures c.skip_if-asked.ensures)
 
 pub value_machine-returns-in_err-condition : goal.value_machine-returns-in_err-condition
 value_machine-returns-in_err-condition t c =
@@ -118,9 +119,9 @@ value_machine-skip_if-run-requires t c =
 pub value_machine-value_by_kind-requires : goal.value_machine-value_by_kind-requires
 value_machine-value_by_kind-requires t c =
     let p = c.requires.placed.1 in
-    let body = running_body p c.requires.at_value c.args.fresh c.is_second_state-state.ensures c.skip_if-asked.ensures
-    c.value_expression.ensures c.in_ok-condition.was c.skip_if-bodies.ensures c.skip_if-run.ensures in
-    (omega (arith, c.decreases, (opened p).level-left), (_, placed p body))
+    deeper_by_kind p c.args.fresh 1 c.decreases
+    (running_body p c.requires.at_value c.args.fresh c.is_second_state-state.ensures c.skip_if-asked.ensures
+    c.value_expression.ensures c.in_ok-condition.was c.skip_if-bodies.ensures c.skip_if-run.ensures)
 
 pub value_machine-returns-in_err-body : goal.value_machine-returns-in_err-body
 value_machine-returns-in_err-body t c =
@@ -148,7 +149,7 @@ value_present-overflow_sub-below t c = (opened c.requires.placed.1).level-left
 pub value_present-value_expression-requires : goal.value_present-value_expression-requires
 value_present-value_expression-requires t c =
     let p = c.requires.placed.1 in
-    (omega (arith, c.decreases, (opened p).level-left), (_, placed p (present-view p c.requires.at_value).first))
+    deeper p c.args.fresh 2 c.decreases (present-view p c.requires.at_value).first
 
 pub value_present-returns-in_err-condition : goal.value_present-returns-in_err-condition
 value_present-returns-in_err-condition t c =
@@ -158,9 +159,8 @@ value_present-returns-in_err-condition t c =
 pub value_present-value_by_kind-requires : goal.value_present-value_by_kind-requires
 value_present-value_by_kind-requires t c =
     let p = c.requires.placed.1 in
-    let w = present-view p c.requires.at_value in
-    let second = after-value p w.first c.value_expression.ensures c.in_ok-condition.was w.second in
-    (omega (arith, c.decreases, (opened p).level-left), (_, placed p second))
+    deeper_by_kind p c.args.fresh 2 c.decreases
+    (present-second p c.args.fresh c.requires.at_value c.value_expression.ensures c.in_ok-condition.was)
 
 pub value_present-returns-in_err-yes : goal.value_present-returns-in_err-yes
 value_present-returns-in_err-yes t c =
@@ -171,9 +171,8 @@ value_present-returns-in_err-yes t c =
 pub value_present-skip-requires : goal.value_present-skip-requires
 value_present-skip-requires t c =
     let p = c.requires.placed.1 in
-    let w = present-view p c.requires.at_value in
-    let second = after-value p w.first c.value_expression.ensures c.in_ok-condition.was w.second in
-    readable p (after-value p second c.value_by_kind.ensures c.in_ok-yes.was w.third)
+    readable p (present-unchosen p c.args.fresh c.requires.at_value c.value_expression.ensures c.in_ok-condition.was
+    c.if-condition-eq1.true c.value_by_kind.ensures c.in_ok-yes.was)
 
 pub value_present-returns-then-condition-eq1 : goal.value_present-returns-then-condition-eq1
 value_present-returns-then-condition-eq1 t c =
@@ -183,15 +182,13 @@ value_present-returns-then-condition-eq1 t c =
 pub value_present-skip-no-requires : goal.value_present-skip-no-requires
 value_present-skip-no-requires t c =
     let p = c.requires.placed.1 in
-    let w = present-view p c.requires.at_value in
-    readable p (after-value p w.first c.value_expression.ensures c.in_ok-condition.was w.second)
+    readable p (present-second p c.args.fresh c.requires.at_value c.value_expression.ensures c.in_ok-condition.was)
 
 pub value_present-value_by_kind-requires-2 : goal.value_present-value_by_kind-requires-2
 value_present-value_by_kind-requires-2 t c =
     let p = c.requires.placed.1 in
-    let w = present-view p c.requires.at_value in
-    let second = after-value p w.first c.value_expression.ensures c.in_ok-condition.was w.second in
-    (omega (arith, c.decreases, (opened p).level-left), (_, placed p (after-walk p second c.skip-no.ensures w.third)))
+    deeper_by_kind p c.args.fresh 2 c.decreases
+    (present-third p c.args.fresh c.requires.at_value c.value_expression.ensures c.in_ok-condition.was c.skip-no.ensures)
 
 pub value_present-returns : goal.value_present-returns
 value_present-returns t c =
@@ -204,7 +201,7 @@ value_reset-overflow_sub-below t c = (opened c.requires.placed.1).level-left
 pub value_reset-value_expression-requires : goal.value_reset-value_expression-requires
 value_reset-value_expression-requires t c =
     let p = c.requires.placed.1 in
-    (omega (arith, c.decreases, (opened p).level-left), (_, placed p (reset-view p c.requires.at_value).first))
+    deeper p c.args.fresh 2 c.decreases (reset-view p c.requires.at_value).first
 
 pub value_reset-returns-in_err-condition : goal.value_reset-returns-in_err-condition
 value_reset-returns-in_err-condition t c =
@@ -214,9 +211,8 @@ value_reset-returns-in_err-condition t c =
 pub value_reset-value_by_kind-requires : goal.value_reset-value_by_kind-requires
 value_reset-value_by_kind-requires t c =
     let p = c.requires.placed.1 in
-    let w = reset-view p c.requires.at_value in
-    let second = after-value p w.first c.value_expression.ensures c.in_ok-condition.was w.second in
-    (omega (arith, c.decreases, (opened p).level-left), (_, placed p second))
+    deeper_by_kind p c.args.fresh 2 c.decreases
+    (reset-second p c.args.fresh c.requires.at_value c.value_expression.ensures c.in_ok-condition.was)
 
 pub value_reset-returns : goal.value_reset-returns
 value_reset-returns t c =
@@ -269,7 +265,7 @@ pub value_fby-value_expression-requires : goal.value_fby-value_expression-requir
 value_fby-value_expression-requires t c =
     let p = c.requires.placed.1 in
     let of = c.requires.at_value in
-    (omega (arith, c.decreases, (opened p).level-left), (_, placed p (fby-view p of).first))
+    deeper p c.args.fresh 2 c.decreases (fby-view p of).first
 
 pub value_fby-returns-in_err-left : goal.value_fby-returns-in_err-left
 value_fby-returns-in_err-left t c =
@@ -298,13 +294,13 @@ pub value_unary-value_expression-requires : goal.value_unary-value_expression-re
 value_unary-value_expression-requires t c =
     let p = c.requires.placed.1 in
     let first = operation_first p _ (own-types p) c.requires.bound.0 (omega (arith, c.requires.bound)) in
-    (omega (arith, c.decreases, (opened p).level-left), (_, placed p first))
+    deeper p c.args.fresh 2 c.decreases first
 
 pub value_binary-value_expression-requires : goal.value_binary-value_expression-requires
 value_binary-value_expression-requires t c =
     let p = c.requires.placed.1 in
     let first = operation_first p _ (own-types p) (omega (arith, c.requires.bound)) c.requires.bound.1 in
-    (omega (arith, c.decreases, (opened p).level-left), (_, placed p first))
+    deeper p c.args.fresh 2 c.decreases first
 
 pub value_unary-returns-in_err-operand : goal.value_unary-returns-in_err-operand
 value_unary-returns-in_err-operand t c =
@@ -325,7 +321,7 @@ value_binary-value_expression-requires-2 t c =
     let p = c.requires.placed.1 in
     let w = binary-view p _ (own-types p) c.requires.bound.0 c.requires.bound.1 in
     let second = after-value p w.first c.value_expression.ensures c.in_ok-left.was w.second in
-    (omega (arith, c.decreases, (opened p).level-left), (_, placed p second))
+    deeper p c.args.fresh 2 c.decreases second
 
 pub value_binary-returns-in_err-right : goal.value_binary-returns-in_err-right
 value_binary-returns-in_err-right t c =

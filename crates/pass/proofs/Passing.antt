@@ -25,7 +25,8 @@ use Rattle.kernel.specs.declared.Value.{Value}
 use Rattle.kernel.specs.declared.Value.TheVariants.{Unknown}
 use Rattle.leaves.specs.Words.{fixed_words}
 use Rattle.expression.specs.Places.{Placement, whole_value}
-use Rattle.rounds.specs.Running.{Running, Held, unheld, Holds, Put}
+use Rattle.sheet_walk.specs.declared.Place.{Place}
+use Rattle.rounds.specs.Running.{Running, Held, unheld, Holds, Put, mapped}
 use Rattle.rounds.proofs.Wires.{wires-counted, wire-placed, wire-valued}
 use Rattle.rounds.proofs.Rounding.{put-length, put-fixed, put_other, put-held}
 use Rattle.pass.specs.Along.{Along, passed_of}
@@ -67,9 +68,9 @@ module _ {s memory types places firsts list start : List ℕ} (a : Along s memor
       }
 
   -- where the expression of the wire at position p stands
-  abbrev pub placed : {p bits at cell : ℕ} {words : List ℕ} → Sofar p bits words → p < length list
-      → at ≡ get_or places (get_or list p 0) 0 → cell ≡ get_or firsts (get_or list p 0) 0
-      → Placement s memory words bits 16 (plain_byte (get_or types (get_or list p 0) 0)) at cell
+  abbrev pub placed : {p bits : ℕ} {words : List ℕ} {here : Place} → Sofar p bits words → p < length list
+      → here ≡ mapped places firsts (get_or list p 0)
+      → Placement s memory words bits 16 (plain_byte (get_or types (get_or list p 0) 0)) here.at here.cell
   placed {p} h l = wire-placed run h.holds h.typed (get_or list p 0) (a.wires p l)
 
   -- a wire's value has its type
@@ -81,17 +82,17 @@ module _ {s memory types places firsts list start : List ℕ} (a : Along s memor
       at (round-typed run.given.sheet run.given.inputs run.given.memory run.well_typed run.valid_inputs run.valid_memory
       Fits fits_inherited values typed w t e)
 
-  pub further : {p bits after at cell : ℕ} {words new : List ℕ} (h : Sofar p bits words) (l : p < length list)
-      (at-is : at ≡ get_or places (get_or list p 0) 0) (cell-is : cell ≡ get_or firsts (get_or list p 0) 0) (v : Value)
-      → v ≡ whole_value (placed h l at-is cell-is) false → Put (get_or list p 0) bits words v after new → Sofar (p + 1) after new
+  pub further : {p bits after : ℕ} {words new : List ℕ} {here : Place} (h : Sofar p bits words) (l : p < length list)
+      (stands : here ≡ mapped places firsts (get_or list p 0)) (v : Value)
+      → v ≡ whole_value (placed h l stands) false → Put (get_or list p 0) bits words v after new → Sofar (p + 1) after new
   unfolding OnWires pass_from
-  further {p} {bits} {after} {words = words} {new = new} h l at-is cell-is v e was =
+  further {p} {bits} {after} {words = words} {new = new} h l stands v e was =
       let w = get_or list p 0 in
       let values = h.values in
       let inside : w < length types = a.wires p l in
-      let here : w < length values = omega (arith, h.holds.size) in
-      let worth : v ≡ worth_of values w = e ∙ wire-valued run values w inside cell-is in
-      let anew : value_at (set values w (worth_of values w)) w ≡ v = get_or-set_same values w (worth_of values w) Unknown here ∙ sym worth in
+      let listed : w < length values = omega (arith, h.holds.size) in
+      let worth : v ≡ worth_of values w = e ∙ wire-valued run values w inside stands in
+      let anew : value_at (set values w (worth_of values w)) w ≡ v = get_or-set_same values w (worth_of values w) Unknown listed ∙ sym worth in
       let kept : (x : ℕ) → x ≢ w → value_at (set values w (worth_of values w)) x ≡ value_at values x =
       λ x other. get_or-set_other values w x (worth_of values w) Unknown other in
       let holder = put-held was (omega (arith, h.holds.room)) (h.ahead p (omega arith) l) in
@@ -109,7 +110,7 @@ module _ {s memory types places firsts list start : List ℕ} (a : Along s memor
         };
         typed = λ x t f.
             at-or_else (λ y. get_elem? run.given.sheet.wire_types y ≡ some t → Fits t (value_at (set values w (worth_of values w)) y)) w x
-            (λ f. rw (get_or-set_same values w (worth_of values w) Unknown here) (worth-typed values h.typed w t f))
+            (λ f. rw (get_or-set_same values w (worth_of values w) Unknown listed) (worth-typed values h.typed w t f))
             (λ other f. rw (kept x other) (h.typed x t f))
             f;
         ahead = λ q m k. (put_other was (get_or list q 0) (λ same. a.once p q (omega arith) k (sym same))).0 ∙ h.ahead q (omega arith) k;

@@ -22,7 +22,8 @@ use Rattle.kernel.specs.declared.Value.{Value}
 use Rattle.kernel.specs.declared.Value.TheVariants.{Unknown}
 use Rattle.leaves.specs.Words.{fixed_words}
 use Rattle.expression.specs.Places.{Placement, whole_value}
-use Rattle.rounds.specs.Running.{Held, unheld, held, Holds, round_of, Before, Put, left, put}
+use Rattle.sheet_walk.specs.declared.Place.{Place}
+use Rattle.rounds.specs.Running.{Held, unheld, held, Holds, round_of, Before, Put, left, put, mapped}
 use Rattle.rounds.proofs.Wires.{wire-placed, wire-valued}
 
 -- What a set and words hold, of any wire: it is unknown just where it is not in the set, and known just where it is.
@@ -111,21 +112,21 @@ module _ {s memory row types places firsts start : List ℕ} {bits due : ℕ}
       }
 
   -- where the expression of wire w stands
-  abbrev pub placed : {w left grown at cell : ℕ} {words : List ℕ} → Midway left grown words → w < length types → at ≡ get_or places w 0
-      → cell ≡ get_or firsts w 0 → Placement s memory words bits 16 (plain_byte (get_or types w 0)) at cell
+  abbrev pub placed : {w left grown : ℕ} {words : List ℕ} {here : Place} → Midway left grown words → w < length types
+      → here ≡ mapped places firsts w → Placement s memory words bits 16 (plain_byte (get_or types w 0)) here.at here.cell
   placed {w} m l = wire-placed b.under.running m.holds b.under.typed w l
 
   -- wire w, which is left, gets its new value
-  module _ {w left grown at cell : ℕ} {words : List ℕ} (m : Midway left grown words) (next : member left w ≡ true)
-      (l : w < length types) (at-is : at ≡ get_or places w 0) (cell-is : cell ≡ get_or firsts w 0)
-      (v : Value) (e : v ≡ whole_value (placed m l at-is cell-is) false) where
+  module _ {w left grown : ℕ} {words : List ℕ} {here : Place} (m : Midway left grown words) (next : member left w ≡ true)
+      (l : w < length types) (is : here ≡ mapped places firsts w)
+      (v : Value) (e : v ≡ whole_value (placed m l is) false) where
     was_unknown : value_at b.under.values w ≡ Unknown
     was_unknown = out-unknown b.under.holds w (m.ahead w next).1
 
     worth : v ≡ value_at rounded w
     worth =
         let r = b.under.running in
-        e ∙ wire-valued r b.under.values w l cell-is
+        e ∙ wire-valued r b.under.values w l is
         ∙ sym (round-at r.given.sheet r.given.inputs r.given.memory b.under.values w)
         ∙ sym (over-unknown (round_of r) b.under.values w (omega (arith, b.under.holds.size)) was_unknown)
 

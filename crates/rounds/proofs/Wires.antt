@@ -26,7 +26,8 @@ use Rattle.kernel.specs.declared.Value.{Value}
 use Rattle.kernel.specs.declared.Value.TheVariants.{Known}
 use Rattle.expression.specs.Places.{value_of_word, Stands, CellsStand, more, Placement}
 use Rattle.expression.proofs.Views.{cells-split}
-use Rattle.rounds.specs.Running.{Running, Held, unheld, held, Holds}
+use Rattle.sheet_walk.specs.declared.Place.{Place}
+use Rattle.rounds.specs.Running.{Running, Held, unheld, held, Holds, mapped}
 
 -- the cells of a wire stand where its first one has its number
 pub cells-of-wire : {memory : List ℕ} {cells : List Cell} (es : List Expression) (k w : ℕ) → w < length es
@@ -90,9 +91,9 @@ module _ {s memory row types places firsts : List ℕ} (r : Running s memory row
 
   -- where the expression of wire w stands, under values that a set and words hold
   abbrev pub wire-placed : {words : List ℕ} {bits : ℕ} {values : List Value} → Holds (length types) row bits words values
-      → OnWires Fits r.given.sheet.wire_types values → (w : ℕ) → w < length types → {at cell : ℕ} → at ≡ get_or places w 0
-      → cell ≡ get_or firsts w 0 → Placement s memory words bits 16 (plain_byte (get_or types w 0)) at cell
-  wire-placed {values = values} h typed w l p q =
+      → OnWires Fits r.given.sheet.wire_types values → (w : ℕ) → w < length types → {here : Place} → here ≡ mapped places firsts w
+      → Placement s memory words bits 16 (plain_byte (get_or types w 0)) here.at here.cell
+  wire-placed {values = values} h typed w l is =
       let at = r.starts w l in
       record {
         inputs = r.inputs;
@@ -101,19 +102,19 @@ module _ {s memory row types places firsts : List ℕ} (r : Running s memory row
         tree = at.tree;
         next = at.next;
         count = at.count;
-        reads = rw (p, q) at.reads;
+        reads = rw is at.reads;
         stands = running_stands h typed;
-        cells = rw q (wire-cells w l);
+        cells = rw is (wire-cells w l);
       }
 
   -- its value is that of the wire
-  pub wire-valued : (values : List Value) (w : ℕ) (l : w < length types) → {cell : ℕ} → cell ≡ get_or firsts w 0
-      → value (environment_of values) false (r.starts w l).tree cell
+  pub wire-valued : (values : List Value) (w : ℕ) (l : w < length types) → {here : Place} → here ≡ mapped places firsts w
+      → value (environment_of values) false (r.starts w l).tree here.cell
       ≡ value_of_wire (environment_of values) r.given.sheet.expressions 0 w
-  wire-valued values w l q =
+  wire-valued values w l is =
       let es = r.given.sheet.expressions in
       let at = r.starts w l in
       let now = environment_of values in
-      rw (q ∙ at.first)
+      rw (is, at.first)
       (sym (tree-value now false (get_or types w 0) at.tree (cells_before es w))
       ∙ rw (← at.whole, ← (zero-add (cells_before es w))) (sym (value-of-wire now es 0 w (omega (arith, wires-counted)))))

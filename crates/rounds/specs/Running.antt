@@ -17,7 +17,9 @@ use Rattle.kernel.specs.declared.Value.{Value}
 use Rattle.kernel.specs.declared.Value.TheVariants.{Unknown, Known}
 use Rattle.leaves.specs.Words.{fixed_words}
 use Rattle.expression.specs.Places.{CellsStand}
+use Rattle.sheet_walk.specs.declared.Place.{Place}
 use Rattle.rounds.specs.Due.{DueIn}
+use Rattle.rounds.specs.declared.Instant.{Instant}
 
 -- the bytes that passed the checks, with what they say: `row` are the words of the inputs and, behind room for 16, of the kept wires' cells,
 -- `types` the wires' type bytes, and the map says where each wire's expression starts and which cell is its first
@@ -76,6 +78,21 @@ pub record RunningUnder (s memory row types places firsts : List ℕ) (bits : �
 pub record Before (s memory row types places firsts : List ℕ) (bits due : ℕ) (words : List ℕ) : Type 0 where
   pub under : RunningUnder s memory row types places firsts bits words
   pub which_due : DueIn (length types) bits due (round_of under.running under.values)
+
+-- where the expression of wire w stands, by the map
+abbrev pub mapped : (places firsts : List ℕ) (w : ℕ) → Place
+mapped places firsts w = record { at = get_or places w 0; cell = get_or firsts w 0 }
+
+-- the same of what an instant runs on, with the words of the instant, of which no round changes those behind the wires'
+module _ (i : Instant) where
+  abbrev pub RunningReadsOn : (reads words : List ℕ) → Type 0
+  RunningReadsOn reads words = RunningReads i.sheet.now i.memory.now (fixed_words words) i.types.now i.places.now i.firsts.now reads
+
+  abbrev pub RunningUnderOn : (bits : ℕ) (words : List ℕ) → Type 0
+  RunningUnderOn bits words = RunningUnder i.sheet.now i.memory.now (fixed_words words) i.types.now i.places.now i.firsts.now bits words
+
+  abbrev pub BeforeOn : (bits due : ℕ) (words : List ℕ) → Type 0
+  BeforeOn bits due words = Before i.sheet.now i.memory.now (fixed_words words) i.types.now i.places.now i.firsts.now bits due words
 
 -- the value of wire w was put into a set and words: an unknown one changes nothing
 pub data Put (w bits : ℕ) (words : List ℕ) : Value → (after : ℕ) → List ℕ → Type 0 where

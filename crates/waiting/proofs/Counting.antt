@@ -3,6 +3,7 @@ use Prim.Native.Nat.{ℕ, zero, suc, ◌+◌, ◌≤◌, ◌<◌}
 use mathlib.Core.Path.{◌≡◌, refl, sym, ap, subst, ◌∙◌}
 use mathlib.Core.Bool.{Bool, true, false, ◌||◌, cond}
 use mathlib.Core.List.{List, [], ◌∷◌, ◌++◌, append-nil}
+use Rattle.std.specs.Prelude.{Option, Some, None}
 use native.Mathlib.Numerals.{add-one}
 use native.Mathlib.Omega.{arith}
 use lib.Dec.{eqb}
@@ -20,7 +21,7 @@ use Rattle.sheet.specs.Laws.Readings.{every-kind, ◌▸◌, end, operands-count
 use Rattle.sheet.specs.declared.Datum.{Datum}
 use Rattle.sheet.specs.declared.Cell.TheVariants.{NotStarted}
 use Rattle.sheet_expressions.proofs.Noting.{leaf-counted}
-use Rattle.sheet_walk.specs.declared.skip.Skipped.{Skipped}
+use Rattle.sheet_walk.specs.declared.Place.{Place}
 use Rattle.kernel.specs.Values.{truth, IsKnown, known}
 use Rattle.kernel.specs.Order.{value_at}
 use Rattle.kernel.specs.Instant.{Environment, cell_at}
@@ -188,7 +189,7 @@ module _ {sheet memory words : List ℕ} {bits level asked at cell : ℕ} (p : P
 
     pub strict-counts : 4 ≤ kind → Strict kind → {body own operands rest : ℕ} → body ≡ body_of kind → own ≡ cells_of kind
         → operands ≡ read_count_of kind → operands + rest ≡ count_of kind
-        → Counts p fresh (record { at = at + 1 + body; cell = cell + own; operands = operands; rest = rest; fresh = fresh })
+        → Counts p fresh (record { here = record { at = at + 1 + body; cell = cell + own }; operands = operands; rest = rest; fresh = fresh })
     strict-counts above s {own = own} {operands} {rest} body_is own_is operands-are all =
         let o = opened p in
         let parts = parted (operands_of kind asked) o.run operands rest (all ∙ sym (operands-counted asked kind o.good.kind)) in
@@ -248,7 +249,7 @@ module _ {sheet memory words : List ℕ} {bits level asked at cell : ℕ} (p : P
     pub operand-counts : {t a k n j d : ℕ} {f : Bool} (o : Operand p t a k) → n ≡ a → j ≡ k
         → Behind sheet d o.next o.count p.next p.count
         → ((w : ℕ) → value_at p.now.wires w ≡ Unknown → among w (whole fresh) ≡ among w (awaits f o))
-        → Counts p fresh (record { at = n; cell = j; operands = 1; rest = d; fresh = f })
+        → Counts p fresh (record { here = record { at = n; cell = j }; operands = 1; rest = d; fresh = f })
     unfolding all_awaited
     operand-counts {t} {f = f} o place number rest same =
         record {
@@ -266,7 +267,7 @@ module _ {sheet memory words : List ℕ} {bits level asked at cell : ℕ} (p : P
       seen = ap (cond fresh NotStarted) (own-cell p (omega arith) (omega arith)).reads
 
       pub fby-counts-none : is_seen fresh memory cell ≡ true
-          → Counts p fresh (record { at = at + 1; cell = cell + 1; operands = 0; rest = 2; fresh = fresh })
+          → Counts p fresh (record { here = record { at = at + 1; cell = cell + 1 }; operands = 0; rest = 2; fresh = fresh })
       unfolding all_awaited
       fby-counts-none started =
           let is = sym seen ∙ seen-cell (type_of_byte asked) fresh memory cell started in
@@ -281,56 +282,56 @@ module _ {sheet memory words : List ℕ} {bits level asked at cell : ℕ} (p : P
           }
 
       pub fby-counts-left : is_seen fresh memory cell ≡ false
-          → Counts p fresh (record { at = at + 1; cell = cell + 1; operands = 1; rest = 1; fresh = fresh })
+          → Counts p fresh (record { here = record { at = at + 1; cell = cell + 1 }; operands = 1; rest = 1; fresh = fresh })
       fby-counts-left unstarted =
           let is = sym seen ∙ unseen-cell (type_of_byte asked) fresh memory cell unstarted in
           let v = fby-view p of in
           operand-counts v.first refl refl (one-behind v.second v.ends) (λ x u. ap (among x) (fby-awaited v ∙ rw is))
 
     -- Once the condition, the first operand, was valued.
-    module _ {c : Valued} (hc : Answers p (at + 1) cell fresh c) where
+    module _ {c : Option Valued} (hc : Answers p (at + 1) cell fresh c) where
       module _ (of : kind ≡ 13) where
-        pub present-counts_condition : c.known ≡ false
-            → Counts p fresh (record { at = at + 1; cell = cell; operands = 1; rest = 2; fresh = fresh })
+        pub present-counts_condition : c ≡ None
+            → Counts p fresh (record { here = record { at = at + 1; cell = cell }; operands = 1; rest = 2; fresh = fresh })
         present-counts_condition unknown =
             let v = present-view p of in
             let is = as_unknown (hc _ (placed p v.first)) unknown in
             operand-counts v.first refl refl (past (readable p v.second) (one-behind v.third v.ends))
             (λ x u. ap (among x) (present-awaited v ∙ rw is (append-nil (awaits fresh v.first))))
 
-        module _ (there : c.known ≡ true) where
-          present_condition : Gives (placed p (present-view p of).first) fresh c.word c.next c.cell
+        module _ {y : Valued} (there : c ≡ Some y) where
+          present_condition : Gives (placed p (present-view p of).first) fresh y.word y.end.at y.end.cell
           present_condition = as_known (hc _ (placed p (present-view p of).first)) there
 
-          pub present-counts-first : c.word ≡ 1
-              → Counts p fresh (record { at = c.next; cell = c.cell; operands = 1; rest = 1; fresh = fresh })
+          pub present-counts-first : y.word ≡ 1
+              → Counts p fresh (record { here = y.end; operands = 1; rest = 1; fresh = fresh })
           present-counts-first holds =
               let v = present-view p of in
               let g = present_condition in
               operand-counts v.second g.next g.count (one-behind v.third v.ends) (λ x u.
-              ap (among x) (present-awaited v) ∙ (behind-known v.first g.value _ x u ∙ ap (among x) (first_taken _ _ c.word holds)))
+              ap (among x) (present-awaited v) ∙ (behind-known v.first g.value _ x u ∙ ap (among x) (first_taken _ _ y.word holds)))
 
-          pub present-counts-second : (c.word ≡ 1 → ⊥) → {b : Skipped} → Walked p c.next c.cell b
-              → Counts p fresh (record { at = b.next; cell = b.cell; operands = 1; rest = 0; fresh = fresh })
+          pub present-counts-second : (y.word ≡ 1 → ⊥) → {b : Place} → Walked p y.end.at y.end.cell b
+              → Counts p fresh (record { here = b; operands = 1; rest = 0; fresh = fresh })
           present-counts-second fails hb =
               let v = present-view p of in
               let g = present_condition in
               let e = by-walk p v.second (walk-behind p (by_value p g) hb v.second) in
               operand-counts v.third e.next e.count (none-behind v.ends) (λ x u.
-              ap (among x) (present-awaited v) ∙ (behind-known v.first g.value _ x u ∙ ap (among x) (second-taken _ _ c.word fails)))
+              ap (among x) (present-awaited v) ∙ (behind-known v.first g.value _ x u ∙ ap (among x) (second-taken _ _ y.word fails)))
 
       -- of a reset the operand, which a true condition makes fresh
       module _ (of : kind ≡ 14) where
-        pub reset-counts_condition : c.known ≡ false
-            → Counts p fresh (record { at = at + 1; cell = cell; operands = 1; rest = 1; fresh = fresh })
+        pub reset-counts_condition : c ≡ None
+            → Counts p fresh (record { here = record { at = at + 1; cell = cell }; operands = 1; rest = 1; fresh = fresh })
         reset-counts_condition unknown =
             let v = reset-view p of in
             let is = as_unknown (hc _ (placed p v.first)) unknown in
             operand-counts v.first refl refl (one-behind v.second v.ends)
             (λ x u. ap (among x) (reset-awaited v ∙ rw is (append-nil (awaits fresh v.first))))
 
-        pub reset-counts-operand : c.known ≡ true
-            → Counts p fresh (record { at = c.next; cell = c.cell; operands = 1; rest = 0; fresh = eqb c.word 1 || fresh })
+        pub reset-counts-operand : {y : Valued} → c ≡ Some y
+            → Counts p fresh (record { here = y.end; operands = 1; rest = 0; fresh = eqb y.word 1 || fresh })
         reset-counts-operand there =
             let v = reset-view p of in
             let g = as_known (hc _ (placed p v.first)) there in

@@ -19,7 +19,8 @@ use Rattle.kernel.specs.Calls.{place_of_loop}
 use Rattle.kernel.proofs.Laws.Order.{known-not}
 use Rattle.kernel.proofs.Laws.Kept.{tree-awaited}
 use Rattle.expression.specs.Places.{Placement}
-use Rattle.rounds.specs.Running.{RunningUnder}
+use Rattle.sheet_walk.specs.declared.Place.{Place}
+use Rattle.rounds.specs.Running.{RunningUnder, mapped}
 use Rattle.rounds.proofs.Rounding.{held-known, out-unknown}
 use Rattle.rounds.proofs.Wires.{wires-counted, environment_of, wire-placed}
 use Rattle.waiting.specs.Waiting.{Awaits, waits_in}
@@ -34,22 +35,22 @@ module _ {s memory row types places firsts words : List ℕ} {bits : ℕ} (u : R
   known-row there none empty w = empty w ∙ sym (rw (known-not (held-known there (u.holds.each wire l))))
 
   -- where the expression of the wire stands
-  abbrev pub standing : {at cell : ℕ} → at ≡ get_or places wire 0 → cell ≡ get_or firsts wire 0
-      → Placement s memory words bits 16 (plain_byte (get_or types wire 0)) at cell
+  abbrev pub standing : {here : Place} → here ≡ mapped places firsts wire
+      → Placement s memory words bits 16 (plain_byte (get_or types wire 0)) here.at here.cell
   standing = wire-placed u.running u.holds u.typed wire l
 
   -- an unknown one waits for what its expression waits for
-  pub unknown-row : member bits wire ≡ false → {at cell : ℕ} (at-is : at ≡ get_or places wire 0) (cell-is : cell ≡ get_or firsts wire 0)
-      → {found : Waited} → Awaits (standing at-is cell-is) false found → (w : ℕ) → member found.wires.bits w ≡ waits_in u wire w
+  pub unknown-row : member bits wire ≡ false → {here : Place} (is : here ≡ mapped places firsts wire)
+      → {found : Waited} → Awaits (standing is) false found → (w : ℕ) → member found.wires.bits w ≡ waits_in u wire w
   unfolding waits_for
-  unknown-row missing at-is cell-is awaits w =
+  unknown-row missing is awaits w =
       let now = environment_of u.running u.values in
       let at = u.running.starts wire l in
       let first = cells_before u.running.given.sheet.expressions wire in
       let unknown = out-unknown u.holds wire missing in
       let within = tree-awaited now false (get_or types wire 0) at.tree first in
       awaits.same w
-      ∙ (ap (λ k. is_unknown (value_at u.values w) && among w (wires_awaited now false at.tree k)) (cell-is ∙ at.first)
+      ∙ (ap (λ k. is_unknown (value_at u.values w) && among w (wires_awaited now false at.tree k)) (ap (λ x. x.cell) is ∙ at.first)
       ∙ (ap (λ ws. is_unknown (value_at u.values w) && among w ws) (sym within) ∙ sym (rw (unknown, at.whole))))
 
 -- the sets of the first k wires, and one more

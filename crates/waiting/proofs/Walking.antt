@@ -17,17 +17,17 @@ use Rattle.sheet.specs.Reads.{wires_named}
 use Rattle.sheet.specs.Readings.{body_at}
 use Rattle.sheet.specs.Laws.Lists.{among-append}
 use Rattle.sheet_walk.specs.Skips.{Readable}
-use Rattle.sheet_walk.specs.declared.skip.Skipped.{Skipped}
+use Rattle.sheet_walk.specs.declared.Place.{Place}
 use Rattle.kernel.specs.Values.{is_unknown}
 use Rattle.kernel.specs.Order.{value_at}
 use Rattle.kernel.specs.Waits.{wires_awaited}
 use Rattle.kernel.specs.declared.Value.{Value}
 use Rattle.kernel.specs.declared.Value.TheVariants.{Unknown, Known}
 use Rattle.leaves.proofs.Leaves.{byte-body}
-use Rattle.expression.specs.Places.{value_of_word, Placement, Placed}
+use Rattle.expression.specs.Places.{value_of_word, Placement}
 use Rattle.expression.proofs.Views.{Operand, placed, operand-counted, wire-view, leaf-of}
 use Rattle.expression.proofs.Giving.{leaf-ends}
-use Rattle.waiting.specs.Waiting.{all_awaited, Behind, passed, past, Run, done, more, Counts, Awaits, AwaitsAt}
+use Rattle.waiting.specs.Waiting.{all_awaited, Behind, passed, past, Run, done, more, Counts, Awaits}
 use Rattle.waiting.specs.declared.count.Counted.{Counted}
 use Rattle.waiting.specs.declared.awaited.Waited.{Waited}
 use Rattle.waiting.proofs.Counting.{leaf-whole}
@@ -67,7 +67,7 @@ module _ {sheet memory words : List ℕ} {bits level asked at cell : ℕ} (p : P
         → (member found w || (unknown_at w && among w (all_awaited p.now anew operands following))) ≡ (unknown_at w && among w whole)
 
   pub begun : {r : Counted} {none : ℕ} → Counts p fresh r → ((w : ℕ) → member none w ≡ false)
-      → Left r.fresh none r.at r.cell r.operands r.rest
+      → Left r.fresh none r.here.at r.here.cell r.operands r.rest
   begun {r} c none_in =
       record {
         operands = c.operands;
@@ -79,7 +79,7 @@ module _ {sheet memory words : List ℕ} {bits level asked at cell : ℕ} (p : P
       }
     where
       go : (w : ℕ) (v : Value) → value_at p.now.wires w ≡ v
-          → (is_unknown v && among w (all_awaited p.now r.fresh c.operands r.cell)) ≡ (is_unknown v && among w whole)
+          → (is_unknown v && among w (all_awaited p.now r.fresh c.operands r.here.cell)) ≡ (is_unknown v && among w whole)
       go w Unknown u = sym (c.same w u)
       go w (Known d) u = refl
 
@@ -106,7 +106,7 @@ module _ {sheet memory words : List ℕ} {bits level asked at cell : ℕ} (p : P
     abbrev here : Ahead left next following h.end h.last h.operands
     here = ahead h.run some
 
-    pub next-placed : Placed sheet memory words bits (level - 1) next following
+    pub next-placed : (t : ℕ) × Placement sheet memory words bits (level - 1) t next following
     next-placed = (here.type, placed p here.first)
 
     -- what the operands ahead wait for, with those behind the next one from a number of cells on
@@ -117,9 +117,10 @@ module _ {sheet memory words : List ℕ} {bits level asked at cell : ℕ} (p : P
         ap (λ es. among w (all_awaited p.now anew es following)) here.trees
         ∙ among-append w (wires_awaited p.now anew here.first.tree following) _ ∙ rw (number, operand-counted p here.first)
 
-    pub further : {r : Waited} {joined : ℕ} → AwaitsAt sheet memory words bits (level - 1) next following anew r
+    pub further : {r : Waited} {joined : ℕ}
+        → ((t : ℕ) (q : Placement sheet memory words bits (level - 1) t next following) → Awaits q anew r)
         → ((w : ℕ) → member joined w ≡ (member found w || member r.wires.bits w))
-        → Left anew joined r.next r.cell (left - 1) rest
+        → Left anew joined r.end.at r.end.cell (left - 1) rest
     further {r} {joined} awaits joins =
         let one = awaits here.type (placed p here.first) in
         record {
@@ -147,8 +148,8 @@ module _ {sheet memory words : List ℕ} {bits level asked at cell : ℕ} (p : P
     pub others-behind : Behind sheet rest next following p.next p.count
     others-behind = let e = empty h.run none in rw (e.place, e.number) h.others
 
-    pub ended : {s : Skipped} → ((n j : ℕ) → Behind sheet rest next following n j → s ≡ record { next = n; cell = j }) → {all : ℕ}
-        → all ≡ found → Awaits p fresh (record { wires = record { bits = all }; next = s.next; cell = s.cell })
+    pub ended : {s : Place} → ((n j : ℕ) → Behind sheet rest next following n j → s ≡ record { at = n; cell = j }) → {all : ℕ}
+        → all ≡ found → Awaits p fresh (record { wires = record { bits = all }; end = s })
     unfolding all_awaited among
     ended walked is =
         let e = walked p.next p.count others-behind in
@@ -157,7 +158,7 @@ module _ {sheet memory words : List ℕ} {bits level asked at cell : ℕ} (p : P
           same = λ w. rw is
               (sym (nothing_left (member found w) (unknown_at w))
               ∙ (ap (λ x. member found w || (unknown_at w && x)) (sym (nothing w)) ∙ h.same w));
-          next = ap (λ x. x.next) e;
+          next = ap (λ x. x.at) e;
           count = ap (λ x. x.cell) e;
         }
 
@@ -168,7 +169,7 @@ module _ {sheet memory words : List ℕ} {bits level asked at cell : ℕ} (p : P
 
     -- one that is no wire waits for nothing
     pub no-wire : (get_or sheet at 0 ≡ 2 → ⊥) → {none : ℕ} → ((w : ℕ) → member none w ≡ false)
-        → Awaits p fresh (record { wires = record { bits = none }; next = n; cell = cell })
+        → Awaits p fresh (record { wires = record { bits = none }; end = record { at = n; cell = cell } })
     unfolding among
     no-wire other empty =
         let (next, count) = leaf-ends p fresh below in
@@ -183,7 +184,7 @@ module _ {sheet memory words : List ℕ} {bits level asked at cell : ℕ} (p : P
     pub itself : get_or sheet at 0 ≡ 2 → (none added : ℕ) {found : ℕ} → ((w : ℕ) → member none w ≡ false)
         → ((w : ℕ) → member added w ≡ (member none w || eqb w (get_or sheet (at + 1) 0)))
         → ((w : ℕ) → member found w ≡ (member added w && not (member bits w)))
-        → Awaits p fresh (record { wires = record { bits = found }; next = n; cell = cell })
+        → Awaits p fresh (record { wires = record { bits = found }; end = record { at = n; cell = cell } })
     unfolding among
     itself of none added empty adds takes =
         let (next, count) = leaf-ends p fresh below in
@@ -214,12 +215,12 @@ module _ {sheet : List ℕ} where
   next-readable passed l = absurd (omega arith)
   next-readable (past q rest) l = q
 
-  pub one-past : {left a k n j : ℕ} → Behind sheet left a k n j → 0 < left → {s : Skipped}
-      → ((q : Readable sheet a k) → s ≡ record { next = q.next; cell = q.count }) → Behind sheet (left - 1) s.next s.cell n j
+  pub one-past : {left a k n j : ℕ} → Behind sheet left a k n j → 0 < left → {s : Place}
+      → ((q : Readable sheet a k) → s ≡ record { at = q.next; cell = q.count }) → Behind sheet (left - 1) s.at s.cell n j
   one-past passed l walked = absurd (omega arith)
-  one-past (past q rest) l walked = rw (ap (λ x. x.next) (walked q), ap (λ x. x.cell) (walked q), sub-one) rest
+  one-past (past q rest) l walked = rw (ap (λ x. x.at) (walked q), ap (λ x. x.cell) (walked q), sub-one) rest
 
   pub all_past : {left a k n j : ℕ} → Behind sheet left a k n j → left ≡ 0
-      → ◌≡◌ {A = Skipped} (record { next = a; cell = k }) (record { next = n; cell = j })
+      → ◌≡◌ {A = Place} (record { at = a; cell = k }) (record { at = n; cell = j })
   all_past passed e = refl
   all_past (past q rest) e = absurd (omega arith)

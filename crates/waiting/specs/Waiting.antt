@@ -12,7 +12,9 @@ use Rattle.kernel.specs.Instant.{Environment}
 use Rattle.kernel.specs.Instants.{under}
 use Rattle.kernel.specs.Waits.{wires_awaited, waits_for}
 use Rattle.kernel.specs.declared.Value.TheVariants.{Unknown}
+use Rattle.sheet_walk.specs.declared.Place.{Place}
 use Rattle.expression.specs.Places.{CellsStand, Placement}
+use Rattle.expression.specs.declared.Basis.{Basis}
 use Rattle.rounds.specs.Running.{RunningUnder}
 use Rattle.waiting.specs.declared.count.Counted.{Counted}
 use Rattle.waiting.specs.declared.awaited.Waited.{Waited}
@@ -40,25 +42,27 @@ module _ {sheet memory words : List ℕ} {bits level asked at cell : ℕ} (p : P
     pub operands : List Expression
     pub end : ℕ
     pub following : ℕ
-    pub run : Run r.operands r.at r.cell end following operands
+    pub run : Run r.operands r.here.at r.here.cell end following operands
     pub rest : Behind sheet r.rest end following p.next p.count
     pub same : (w : ℕ) → value_at p.now.wires w ≡ Unknown
-        → among w (wires_awaited p.now fresh p.tree cell) ≡ among w (all_awaited p.now r.fresh operands r.cell)
+        → among w (wires_awaited p.now fresh p.tree cell) ≡ among w (all_awaited p.now r.fresh operands r.here.cell)
 
   -- just the unknown wires that it waits for, where it ends, and the number of the first cell past its own
   pub record Awaits (fresh : Bool) (r : Waited) : Type 0 where
     pub same : (w : ℕ)
         → member r.wires.bits w ≡ (is_unknown (value_at p.now.wires w) && among w (wires_awaited p.now fresh p.tree cell))
-    pub next : r.next ≡ p.next
-    pub count : r.cell ≡ p.count
+    pub next : r.end.at ≡ p.next
+    pub count : r.end.cell ≡ p.count
 
 -- of every placement there
-module _ (sheet memory words : List ℕ) (bits level at cell : ℕ) (fresh : Bool) where
+module _ (b : Basis) (level : ℕ) (here : Place) (fresh : Bool) where
   abbrev pub CountsAt : Counted → Type 0
-  CountsAt r = (asked : ℕ) (p : Placement sheet memory words bits level asked at cell) → Counts p fresh r
+  CountsAt r =
+      (asked : ℕ) (p : Placement b.sheet.now b.memory.now b.words.now b.known.bits level asked here.at here.cell) → Counts p fresh r
 
   abbrev pub AwaitsAt : Waited → Type 0
-  AwaitsAt r = (asked : ℕ) (p : Placement sheet memory words bits level asked at cell) → Awaits p fresh r
+  AwaitsAt r =
+      (asked : ℕ) (p : Placement b.sheet.now b.memory.now b.words.now b.known.bits level asked here.at here.cell) → Awaits p fresh r
 
 -- which wire waits for which under the values of what runs
 abbrev pub waits_in : {s memory row types places firsts words : List ℕ} {bits : ℕ}

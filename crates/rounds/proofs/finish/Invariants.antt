@@ -2,15 +2,14 @@
 -- in the next one would stay as they are.
 use Prim.Native.Nat.{◌-◌, ◌≤◌}
 use Rattle.wires.specs.Sets.{member, tally}
-use Rattle.leaves.specs.Words.{fixed_words}
-use Rattle.rounds.specs.Running.{RunningReads}
+use Rattle.rounds.specs.Running.{RunningReadsOn}
 use Rattle.rounds.proofs.Finishing.{Rounded}
 use Rattle.rounds.proofs.finish.Given as goal
 
 abbrev pub invariant-loop-readers : goal.invariant-loop-readers
 invariant-loop-readers l =
     (l.rounds ≤ tally (member l.known.bits) 64)
-    × ((run : RunningReads l.sheet l.memory (fixed_words l.initial.words) l.types l.places l.firsts l.reads) → Rounded run l.rounds l.known.bits l.due.bits l.words)
+    × ((run : RunningReadsOn l.instant l.reads l.initial.words) → Rounded run l.rounds l.known.bits l.due.bits l.words)
 
 abbrev pub decreases-loop-readers : goal.decreases-loop-readers
 decreases-loop-readers l =

@@ -13,14 +13,11 @@ overflow_cast-end c = omega (arith, c.end-end.ensures.within)
 pub loop-end-init : goal.loop-end-init
 loop-end-init c = (c.end-end.ensures, λ due is b. begun b is)
 
-pub bounds-places-w : goal.bounds-places-w
-bounds-places-w c = omega (arith, c.loop-end.invariant.0.within, c.loop-end-test.true)
+pub place_of-here-requires : goal.place_of-here-requires
+place_of-here-requires c = omega (arith, c.loop-end.invariant.0.within, c.loop-end-test.true)
 
-pub bounds-firsts-w : goal.bounds-firsts-w
-bounds-firsts-w c = omega (arith, c.loop-end.invariant.0.within, c.loop-end-test.true)
-
-pub bounds-types-w : goal.bounds-types-w
-bounds-types-w c =
+pub bounds-instant-w : goal.bounds-instant-w
+bounds-instant-w c =
     let l = c.loop-end in
     let top : l.end ≡ suc (l.end - 1) = omega (arith, c.loop-end-test.true) in
     let m = l.invariant.1 _ c.minus-left.ensures c.requires in
@@ -31,7 +28,7 @@ value_of_wire-worth-requires c =
     let l = c.loop-end in
     let top : l.end ≡ suc (l.end - 1) = omega (arith, c.loop-end-test.true) in
     let m = l.invariant.1 _ c.minus-left.ensures c.requires in
-    placed c.requires m (m.ahead _ (l.invariant.0.highest _ top)).0 c.place-at.ensures c.length_of-cell.ensures.0
+    placed c.requires m (m.ahead _ (l.invariant.0.highest _ top)).0 c.place_of-here.ensures
 
 pub put_value-grown-requires : goal.put_value-grown-requires
 put_value-grown-requires c =
@@ -59,12 +56,11 @@ loop-end-preserved c =
     let top : l.end ≡ suc (l.end - 1) = omega (arith, c.loop-end-test.true) in
     let highest = l.invariant.0.highest _ top in
     let v = c.value_of_wire-worth in
-    let at-is = c.place-at.ensures in
-    let cell-is = c.length_of-cell.ensures.0 in (
+    let stands = c.place_of-here.ensures in (
       c.end-end-in-loop-end.ensures,
       λ due is b. let m = l.invariant.1 due is b in
           let within = (m.ahead _ highest).0 in
-          further b m highest within at-is cell-is v.result (v.ensures (placed b m within at-is cell-is))
+          further b m highest within stands v.result (v.ensures (placed b m within stands))
           c.put_value-grown.ensures c.without-left.ensures,
     )
 

@@ -4,8 +4,7 @@ use Prim.Native.Nat.{ℕ}
 use mathlib.Core.Path.{◌≡◌}
 use mathlib.Core.Bool.{not, ◌&&◌}
 use Rattle.wires.specs.Sets.{member, EndsAt}
-use Rattle.leaves.specs.Words.{fixed_words}
-use Rattle.rounds.specs.Running.{Before}
+use Rattle.rounds.specs.Running.{BeforeOn}
 use Rattle.rounds.proofs.Rounding.{Midway}
 use Rattle.rounds.proofs.round.Given as goal
 
@@ -13,7 +12,7 @@ abbrev pub invariant-loop-end : goal.invariant-loop-end
 invariant-loop-end l =
     EndsAt (member l.left.bits) 64 l.end
     × ((due : ℕ) → ((k : ℕ) → member l.initial.left.bits k ≡ (member due k && not (member l.before.bits k)))
-    → (b : Before l.sheet l.memory (fixed_words l.initial.words) l.types l.places l.firsts l.before.bits due l.initial.words)
+    → (b : BeforeOn l.instant l.before.bits due l.initial.words)
     → Midway b l.left.bits l.grown.bits l.words)
 
 abbrev pub decreases-loop-end : goal.decreases-loop-end

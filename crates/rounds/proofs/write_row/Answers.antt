@@ -1,6 +1,6 @@
 -- `write_row` meets its contract. The loop's invariant: the words that are left, put behind those of the outputs passed, make the row.
 use Prim.Native.Nat.{ℕ, suc, ◌+◌, ◌*◌, ◌<◌}
-use mathlib.Core.Path.{◌≡◌, refl, sym, ◌∙◌}
+use mathlib.Core.Path.{◌≡◌, sym, ◌∙◌}
 use mathlib.Core.List.{List}
 use native.Mathlib.Numerals.{add-one}
 use native.Mathlib.Omega.{arith}
@@ -27,41 +27,14 @@ unfolding words_of
 all-written outputs words row i e h = rw (e, drop-length) at h
 
 pub loop-i-init : goal.loop-i-init
-loop-i-init c = (omega arith, refl, sets-all _ _ (words-length _ _ ∙ sym c.requires.1))
-
-pub overflow_cast-wire : goal.overflow_cast-wire
-overflow_cast-wire c = omega (arith, c.shared_slice_known-in-loop-i-1.given c.loop-i.i)
-
-pub offset_bounds-words-wire : goal.offset_bounds-words-wire
-offset_bounds-words-wire c = omega (arith, c.shared_slice_known-in-loop-i-1.given c.loop-i.i)
+loop-i-init c = sets-all _ _ (words-length _ _ ∙ sym c.requires.1)
 
 pub bounds-words-wire : goal.bounds-words-wire
 unfolding Below
-bounds-words-wire c =
-    omega (
-      arith,
-      c.requires.0 c.loop-i.i c.loop-i-test.true,
-    )
-
-pub put_word-requires : goal.put_word-requires
-put_word-requires c =
-    omega (
-      arith,
-      c.requires.1,
-      c.loop-i.invariant.1,
-    )
+bounds-words-wire c = omega (arith, c.requires.0 c.loop-i.i c.loop-i-test.true)
 
 pub loop-i-preserved : goal.loop-i-preserved
-loop-i-preserved c =
-    let l = c.loop-i in (
-      omega arith,
-      c.put_word.auto.bytes ∙ l.invariant.1,
-      written _ _ _ _ _ c.loop-i-test.true c.put_word.ensures
-          ∙ l.invariant.2,
-    )
-
-pub shape_of-row : goal.shape_of-row
-shape_of-row c = c.loop-i.invariant.1
+loop-i-preserved c = written _ _ _ _ _ c.loop-i-test.true c.put_word.ensures ∙ c.loop-i.invariant
 
 pub returns : goal.returns
-returns c = all-written _ _ _ c.loop-i.i (omega arith) c.loop-i.invariant.2
+returns c = all-written _ _ _ c.loop-i.i (omega arith) c.loop-i.invariant

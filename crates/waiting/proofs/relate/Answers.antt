@@ -7,32 +7,28 @@ use Rattle.waiting.proofs.Relating.{next_row}
 use Rattle.waiting.proofs.relate.Goals as goal
 
 pub loop-w-init : goal.loop-w-init
-loop-w-init c = (omega arith, refl, λ u. record { same = λ v w l. absurd (omega arith) })
+loop-w-init c = (refl, λ u. record { same = λ v w l. absurd (omega arith) })
 
-pub set_of-set-requires : goal.set_of-set-requires
-set_of-set-requires c = (c.requires.0, c.loop-w-test.true)
+pub set_of-requires : goal.set_of-requires
+set_of-requires c = (c.requires.0, c.loop-w-test.true)
 
 pub bounds-sets-w : goal.bounds-sets-w
 bounds-sets-w c =
     let pre = c.requires in
-    omega (arith, c.loop-w-test.true, pre.0.running.few, pre.1, c.loop-w.invariant.1)
-
-pub loop-w-smaller : goal.loop-w-smaller
-loop-w-smaller c = omega (arith, c.loop-w-test.true)
+    omega (arith, c.loop-w-test.true, pre.0.running.few, pre.1, c.loop-w.invariant.0)
 
 pub loop-w-preserved : goal.loop-w-preserved
 loop-w-preserved c =
     let at = c.loop-w in
     let room = c.requires.1 in (
-      omega (arith, c.loop-w-test.true),
-      rw length-set at.invariant.1,
-      λ u. next_row (waits_in u) _ (omega (arith, c.loop-w-test.true, u.running.few, at.invariant.1)) (at.invariant.2 u)
-          (c.set_of-set.ensures u),
+      rw length-set at.invariant.0,
+      λ u. next_row (waits_in u) _ (omega (arith, c.loop-w-test.true, u.running.few, at.invariant.0)) (at.invariant.1 u)
+          (c.set_of.ensures u),
     )
 
 pub returns : goal.returns
 returns c = let at = c.loop-w in
     record {
-      rows = λ u. record { same = λ v w l. (at.invariant.2 u).same v w (omega (arith, c.loop-w-test.false, at.invariant.0)) };
-      sets_len_unchanged = at.invariant.1;
+      rows = λ u. record { same = λ v w l. (at.invariant.1 u).same v w (omega (arith, c.loop-w-test.false)) };
+      sets_len_unchanged = at.invariant.0;
     }

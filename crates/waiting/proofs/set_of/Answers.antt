@@ -7,13 +7,12 @@ pub returns-then-has : goal.returns-then-has
 returns-then-has c =
     λ u. known-row u c.args.wire c.requires.1 (sym c.has.ensures ∙ c.if-has.true) _ c.none.ensures
 
-pub awaited-own-requires : goal.awaited-own-requires
-awaited-own-requires c =
-    (_, standing c.requires.0 c.args.wire c.requires.1 c.place-at.ensures c.length_of-cell.ensures.0)
+pub awaited-requires : goal.awaited-requires
+awaited-requires c =
+    (_, standing c.requires.0 c.args.wire c.requires.1 c.place_of-here.ensures)
 
 pub returns : goal.returns
 returns c =
-    λ u. let at-is = c.place-at.ensures in
-    let cell-is = c.length_of-cell.ensures.0 in
-    unknown-row u c.args.wire c.requires.1 (sym c.has.ensures ∙ c.if-has.false) at-is cell-is
-    (c.awaited-own.ensures _ (standing u c.args.wire c.requires.1 at-is cell-is))
+    λ u. let stands = c.place_of-here.ensures in
+    unknown-row u c.args.wire c.requires.1 (sym c.has.ensures ∙ c.if-has.false) stands
+    (c.awaited.ensures _ (standing u c.args.wire c.requires.1 stands))

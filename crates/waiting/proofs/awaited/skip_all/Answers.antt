@@ -1,24 +1,20 @@
 -- `skip_all` meets its contract. The loop's invariant: the expressions ahead end where all of them do.
+use Prim.Native.Nat.{◌+◌, ◌-◌}
+use mathlib.Core.Path.{◌≡◌}
 use native.Mathlib.Omega.{arith}
 use Rattle.waiting.proofs.Walking.{next-readable, one-past, all_past}
 use Rattle.waiting.proofs.awaited.skip_all.Goals as goal
 
-pub loop-left-init : goal.loop-left-init
-loop-left-init c = λ n j b. b
-
-pub skip-past-requires : goal.skip-past-requires
-skip-past-requires c =
+pub skip-end-requires : goal.skip-end-requires
+skip-end-requires c =
     let (n, j, b) = c.requires in
-    next-readable (c.loop-left.invariant n j b) c.loop-left-test.true
+    next-readable (c.loop-passed.invariant n j b) (omega (arith, c.loop-passed-test.true))
 
-pub overflow_sub-left : goal.overflow_sub-left
-overflow_sub-left c = c.loop-left-test.true
-
-pub loop-left-smaller : goal.loop-left-smaller
-loop-left-smaller c = omega (arith, c.loop-left-test.true)
-
-pub loop-left-preserved : goal.loop-left-preserved
-loop-left-preserved c = λ n j b. one-past (c.loop-left.invariant n j b) c.loop-left-test.true c.skip-past.ensures
+pub loop-passed-preserved : goal.loop-passed-preserved
+loop-passed-preserved c =
+    let l = c.loop-passed in
+    let fewer : c.args.count - (l._passed + 1) ≡ c.args.count - l._passed - 1 = omega arith in
+    λ n j b. rw fewer (one-past (l.invariant n j b) (omega (arith, c.loop-passed-test.true)) c.skip-end.ensures)
 
 pub returns : goal.returns
-returns c = λ n j b. all_past (c.loop-left.invariant n j b) (omega (arith, c.loop-left-test.false))
+returns c = λ n j b. all_past (c.loop-passed.invariant n j b) (omega (arith, c.loop-passed-test.false))

@@ -5,11 +5,8 @@ use Rattle.expression.proofs.Views.{opened, own-cell}
 use Rattle.waiting.proofs.Counting.{fby-counts-none, fby-counts-left}
 use Rattle.waiting.proofs.count.count_fby.Goals as goal
 
-pub overflow_add-first : goal.overflow_add-first
-overflow_add-first c = omega (arith, (opened c.requires.placed.1).good.starts)
-
-pub overflow_add-inner : goal.overflow_add-inner
-overflow_add-inner c = omega (arith, (opened c.requires.placed.1).good.cells)
+pub overflow_add-first-2 : goal.overflow_add-first-2
+overflow_add-first-2 c = omega (arith, (opened c.requires.placed.1).good.cells)
 
 pub is_seen-requires : goal.is_seen-requires
 is_seen-requires c = (own-cell c.requires.placed.1 (omega (arith, c.requires.at_value)) (omega (arith, c.requires.at_value))).stands.fits

@@ -4,22 +4,23 @@
 
 ghost use Rattle.std.specs.Prelude.{◌≡◌, List, ℕ, ◌<◌, ◌≤◌, length, get_or};
 ghost use Rattle.std.proofs.lemmas.List.Edits.{sets};
+ghost use Rattle.sheet.specs.KindBytes.{byte_of};
 ghost use Rattle.sheet.specs.Reads.{wires_named};
 ghost use Rattle.sheet.specs.Readings.{body_from};
 ghost use Rattle.sheet_own.specs.Own.{Lookup, Joins, LeafChecks, then_type, HasOperands, own_entries};
 
-use sheet::{Got, Refusal, Refused, bodies, kinds};
+use sheet::kinds::Kind;
+use sheet::{Got, Refusal, Refused, bodies};
 use wires::Wires;
 
 // The set found so far, with the wire that a leaf of this kind names, if it names one.
-fn with_named(kind: u8, named: u8, found: Wires) -> Wires
-    requires { kind ≡ 2 → named < 64 }
-    ensures { Joins found.bits (wires_named kind named) result.bits }
+fn with_named(kind: Kind, named: u8, found: Wires) -> Wires
+    requires { byte_of kind ≡ 2 → named < 64 }
+    ensures { Joins found.bits (wires_named (byte_of kind) named) result.bits }
 {
-    if kind == 2 {
-        found.with(named as usize)
-    } else {
-        found
+    match kind {
+        Kind::Wire => found.with(named as usize),
+        _ => found,
     }
 }
 
@@ -36,16 +37,16 @@ pub fn check_leaf(
     ensures { (l : Lookup names.now)
         → LeafChecks l.inputs l.wires sheet.now asked at count result reads.old reads.new }
 {
-    let kind = sheet[at];
-    let body = kinds::body(kind);
+    let kind = Kind::of(sheet[at]);
+    let body = kind.body();
     if sheet.len() - at <= body {
         return Err(Refusal::Cut.at(sheet.len()));
     }
     let named = sheet[at + 1];
-    if sheet_names::limit(names, kind) <= named as u64 {
+    if sheet_names::limit(names, sheet[at]) <= named as u64 {
         return Err(Refusal::Body.at(at));
     }
-    if sheet_names::type_of(names, kind, named) != asked {
+    if sheet_names::type_of(names, sheet[at], named) != asked {
         return Err(Refusal::TypeAsked.at(at));
     }
     let bits = *reads;
@@ -93,7 +94,7 @@ fn check_cell(sheet: &[u8], at: usize, count: usize) -> Result<Got, Refused>
     if 64 <= count {
         return Err(Refusal::CellLimit.at(at));
     }
-    let body = kinds::body(sheet[at]);
+    let body = Kind::of(sheet[at]).body();
     if sheet.len() - at <= body {
         return Err(Refusal::Cut.at(sheet.len()));
     }
@@ -113,35 +114,29 @@ pub fn check_own(sheet: &[u8], at: usize, count: usize) -> Result<Got, Refused>
     ensures { (inputs wires : List ℕ) (asked : ℕ)
         → then_type (get_or sheet.now at 0) asked at result ≡ body_from inputs wires sheet.now asked at count }
 {
-    if sheet[at] < 15 {
-        return Ok(Got {
+    match Kind::of(sheet[at]) {
+        Kind::BooleanPre | Kind::NumberPre | Kind::Fby | Kind::Machine => {
+            check_cell(sheet, at, count)
+        }
+        _ => Ok(Got {
             next: at + 1,
             count,
-        });
-    }
-    check_cell(sheet, at, count)
-}
-
-// Notes the cell that an expression of this kind at `at` owns, which has this number: an fby's may be empty, and a machine's is a Boolean's.
-fn note_cell(kind: u8, asked: u8, at: usize, number: usize, cells: &mut [u16; 64])
-    requires { (15 ≤ kind) × HasOperands kind × (asked < 2) × (at < 4096) × (number < 64) }
-    ensures { cells.new ≡ sets cells.old number (own_entries kind asked at) }
-{
-    if kind == kinds::FBY {
-        cells[number] = (4 * at + numbers::length_of(asked) + 2) as u16;
-    } else if kind == kinds::MACHINE {
-        cells[number] = (4 * at) as u16;
-    } else {
-        cells[number] = (4 * at + numbers::length_of(asked)) as u16;
+        }),
     }
 }
 
-// Notes the cell that an expression of this kind at `at` owns, if it owns one.
-pub fn note_own(kind: u8, asked: u8, at: usize, number: usize, cells: &mut [u16; 64])
-    requires { HasOperands kind × (asked < 2) × (at < 4096) × (15 ≤ kind → number < 64) }
-    ensures { cells.new ≡ sets cells.old number (own_entries kind asked at) }
+// Notes the cell that an expression of this kind at `at` owns, if it owns one, which has this number: an fby's may be empty, and a machine's
+// is a Boolean's.
+pub fn note_own(kind: Kind, asked: u8, at: usize, number: usize, cells: &mut [u16; 64])
+    requires { HasOperands (byte_of kind) × (asked < 2) × (at < 4096) × (15 ≤ byte_of kind → number < 64) }
+    ensures { cells.new ≡ sets cells.old number (own_entries (byte_of kind) asked at) }
 {
-    if 15 <= kind {
-        note_cell(kind, asked, at, number, cells);
+    match kind {
+        Kind::BooleanPre | Kind::NumberPre => {
+            cells[number] = (4 * at + numbers::length_of(asked)) as u16;
+        }
+        Kind::Fby => cells[number] = (4 * at + numbers::length_of(asked) + 2) as u16,
+        Kind::Machine => cells[number] = (4 * at) as u16,
+        _ => {}
     }
 }

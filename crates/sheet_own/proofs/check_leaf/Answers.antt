@@ -1,6 +1,7 @@
 -- `check_leaf` meets its contract: the tests of a leaf's own bytes, looked up by its kind.
 use Prim.Native.Nat.{◌+◌}
 use mathlib.Core.Path.{sym, ap, ◌∙◌}
+use Rattle.sheet.specs.Kinds.{body_of}
 use Rattle.std.specs.Prelude.{Err}
 use native.Mathlib.Omega.{arith}
 use Rattle.sheet_own.proofs.Nodes.{leaf-long, leaf-refused, leaf-cut, leaf_wrong, leaf-other, leaf_good, wire-below, joins-named}
@@ -14,12 +15,12 @@ returns-then-sheet-at c l =
     leaf-refused (leaf-cut l.inputs l.wires a.names.now a.sheet.now a.asked a.at a.count l.naming
     p.1 p.2 p.3 p.4
     (omega (arith, c.shared_slice_known-1.given (a.at + 1)))
-    (omega (arith, c.body-body.ensures, c.if-sheet-at.true)))
+    (omega (arith, c.body-body.ensures ∙ ap body_of c.of-kind.ensures, c.if-sheet-at.true)))
     (ap Err c.at.ensures)
 
 pub bounds-sheet-at-2 : goal.bounds-sheet-at-2
 bounds-sheet-at-2 c =
-    omega (arith, c.body-body.ensures, c.if-sheet-at.false, leaf-long _ c.requires.2)
+    omega (arith, c.body-body.ensures ∙ ap body_of c.of-kind.ensures, c.if-sheet-at.false, leaf-long _ c.requires.2)
 
 pub overflow_cast-named : goal.overflow_cast-named
 overflow_cast-named c = omega (arith, c.shared_slice_known-3-1.given (c.args.at + 1))
@@ -32,7 +33,7 @@ returns-then-limit-named c l =
     leaf-refused (leaf_wrong l.inputs l.wires a.names.now a.sheet.now a.asked a.at a.count l.naming
     p.1 p.2 p.3 p.4
     (omega (arith, c.shared_slice_known-1.given (a.at + 1)))
-    (omega (arith, c.body-body.ensures, c.if-sheet-at.false))
+    (omega (arith, c.body-body.ensures ∙ ap body_of c.of-kind.ensures, c.if-sheet-at.false))
     (omega (arith, c.limit.ensures, c.if-limit-named.true)))
     (ap Err c.at-then-limit-named.ensures)
 
@@ -46,7 +47,7 @@ returns-then-type_of-asked c l =
     (omega (arith, c.shared_slice_known-1.given (a.at + 1)))
     (omega (
       arith,
-      c.body-body.ensures,
+      c.body-body.ensures ∙ ap body_of c.of-kind.ensures,
       c.if-sheet-at.false,
     ))
     (omega (arith, c.limit.ensures, c.if-limit-named.false))
@@ -59,14 +60,15 @@ with_named-grown-requires c =
     let a = start.args in
     let p = start.requires in
     let l = start.requires.0 in
-    wire-below l.inputs l.wires a.names.now a.sheet.now a.asked a.at a.count l.naming p.1 p.2 p.3 p.4
+    λ is. wire-below l.inputs l.wires a.names.now a.sheet.now a.asked a.at a.count l.naming p.1 p.2 p.3 p.4
     (omega (arith, c.shared_slice_known-1.given (a.at + 1)))
     (omega (
       arith,
-      c.body-body.ensures,
+      c.body-body.ensures ∙ ap body_of c.of-kind.ensures,
       c.if-sheet-at.false,
     ))
     (omega (arith, c.limit.ensures, c.if-limit-named.false))
+    (sym c.of-kind.ensures ∙ is)
 
 pub returns : goal.returns
 returns c l =
@@ -81,13 +83,13 @@ returns c l =
           (a.at + 1),
     )) (omega (
       arith,
-      c.body-body.ensures,
+      c.body-body.ensures ∙ ap body_of c.of-kind.ensures,
       c.if-sheet-at.false,
     ))
     (omega (arith, c.limit.ensures, c.if-limit-named.false))
     (sym c.type_of.ensures ∙ c.if-type_of-asked.false) in
     record {
-      answers = rw c.body-body.ensures good;
+      answers = rw (c.body-body.ensures ∙ ap body_of c.of-kind.ensures) good;
       reads =
-          λ n k e. joins-named a.sheet.now a.at c.with_named-grown.ensures;
+          λ n k e. joins-named a.sheet.now a.at (rw c.of-kind.ensures at c.with_named-grown.ensures);
     }

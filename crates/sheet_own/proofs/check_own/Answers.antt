@@ -1,11 +1,11 @@
 -- `check_own` meets its contract: an expression without a cell has no body, and one with a cell is `check_cell`'s.
-use mathlib.Core.Path.{sym}
+use Rattle.std.proofs.Common.{rules, ◌<◌, get_or, sym}
 use Rattle.sheet_own.proofs.Nodes.{plain-own}
 use Rattle.sheet_own.proofs.check_own.Goals as goal
 
-pub returns-then-sheet-at-lt15 : goal.returns-then-sheet-at-lt15
-returns-then-sheet-at-lt15 c = λ inputs wires asked.
-    let start = c in
-    let a = start.args in
-    let p = start.requires.at_in_bounds in
-    sym (plain-own inputs wires a.sheet.now asked a.at a.count p.0 p.1 c.if-sheet-at-lt15.true p.2)
+pub returns-in_default : goal.returns-in_default
+returns-in_default c = λ inputs wires asked.
+    let a = c.args in
+    let p = c.requires.at_in_bounds in
+    let cellless : get_or a.sheet.now a.at 0 < 15 = search rules in
+    sym (plain-own inputs wires a.sheet.now asked a.at a.count p.0 p.1 cellless p.2)

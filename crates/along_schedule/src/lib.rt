@@ -7,6 +7,7 @@ ghost use Rattle.kernel.specs.Calls.{scheduled_call, Leaves};
 use given::Given;
 use kernel::Scheduled;
 use schedule::Ordered;
+use sheet_expressions::map::Map;
 
 // The instant along a schedule, after whose pass no wire is unknown.
 pub fn instant(
@@ -19,20 +20,9 @@ pub fn instant(
     ensures { Leaves (scheduled_call sheet.now memory.old input.now output.old
         schedule.now) result memory.new output.new }
 {
-    let mut places = [0u16; 64];
-    let mut firsts = [0u8; 64];
-    let mut reads = [0u64; 64];
+    let mut map = Map::empty();
     let mut words = [0u32; 144];
-    match given::given_of(
-        sheet,
-        memory,
-        input,
-        output,
-        &mut places,
-        &mut firsts,
-        &mut reads,
-        &mut words,
-    ) {
+    match given::given_of(sheet, memory, input, output, &mut map, &mut words) {
         Given::Refused { why, place } => Scheduled::Refused { why, place },
         Given::Passed {
             types_from,
@@ -41,11 +31,19 @@ pub fn instant(
             outputs_to,
         } => {
             let types = &sheet[types_from..types_to];
-            match schedule::check_schedule(schedule, types.len(), &reads) {
+            match schedule::check_schedule(schedule, types.len(), &map.reads) {
                 Ordered::Refused { why, place } => Scheduled::Refused { why, place },
                 Ordered::Passed => {
-                    pass::pass(sheet, memory, types, &places, &firsts, schedule, &mut words);
-                    next_memory::store(sheet, memory, types, &places, &firsts, &words);
+                    pass::pass(
+                        sheet,
+                        memory,
+                        types,
+                        &map.places,
+                        &map.firsts,
+                        schedule,
+                        &mut words,
+                    );
+                    next_memory::store(sheet, memory, types, &map.places, &map.firsts, &words);
                     rounds::write_row(&sheet[outputs_from..outputs_to], &words, output);
                     Scheduled::Accepted
                 }

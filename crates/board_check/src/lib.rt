@@ -14,6 +14,7 @@ ghost use Rattle.board_check.specs.Steps.{further_of, Collected, Room, Steps, Wa
 
 use buffers::Tested;
 use sheet::Refusal;
+use sheet_expressions::map::Map;
 
 // Where a sheet of a board and its parts begin: the place of its length, and how many cells, inputs and outputs the sheets before it have.
 #[derive(Clone, Copy)]
@@ -134,11 +135,8 @@ fn check_sheet(board: &[u8], here: Begin, forms: &mut [u16; 512], types: &mut [u
     let begin = at + 2;
     let end = begin + board_frame::length_at(board, at);
     let sheet = &board[begin..end];
-    let mut places = [0u16; 64];
-    let mut firsts = [0u8; 64];
-    let mut reads = [0u64; 64];
-    let mut entries = [0u16; 64];
-    match sheet_check::check_map(sheet, &mut places, &mut firsts, &mut reads, &mut entries) {
+    let mut map = Map::empty();
+    match sheet_check::check_map(sheet, &mut map) {
         Err(refused) => {
             let counted = begin + refused.place;
             Step::Refused {
@@ -147,7 +145,7 @@ fn check_sheet(board: &[u8], here: Begin, forms: &mut [u16; 512], types: &mut [u
             }
         }
         Ok(counts) => {
-            put_forms(forms, here.cells, &entries, counts.cells);
+            put_forms(forms, here.cells, &map.cells, counts.cells);
             put_types(types, here.inputs, &sheet[1..1 + counts.inputs]);
             let next = further(here, end, counts.cells, counts.inputs, counts.outputs);
             Step::Next { next }

@@ -9,6 +9,7 @@ ghost use Rattle.given.specs.Grants.{Grants, parts_of};
 use buffers::Tested;
 use leaves::{inputs, lasts};
 use sheet::Refusal;
+use sheet_expressions::map::Map;
 
 // What the checks of an instant's buffers answer: the first refusal 1 to 16 with its place, or where the types of the wires and the
 // outputs stand in the sheet.
@@ -33,17 +34,14 @@ pub fn given_of(
     memory: &[u8],
     input: &[u8],
     output: &[u8],
-    places: &mut [u16; 64],
-    firsts: &mut [u8; 64],
-    reads: &mut [u64; 64],
+    map: &mut Map,
     words: &mut [u32; 144],
 ) -> Given
-    requires { (64 ≤ length places.old) × (64 ≤ length firsts.old) × (64 ≤ length reads.old) × (length words.old ≡ word_count) }
+    requires { length words.old ≡ word_count }
     ensures { Grants sheet.now memory.now input.now output.now
-        places.new firsts.new reads.new words.new result }
+        map.new.places map.new.firsts map.new.reads words.new result }
 {
-    let mut forms = [0u16; 64];
-    match sheet_check::check_map(sheet, places, firsts, reads, &mut forms) {
+    match sheet_check::check_map(sheet, map) {
         Err(refused) => Given::Refused {
             why: refused.why,
             place: refused.place,
@@ -54,11 +52,11 @@ pub fn given_of(
             let outputs = counts.outputs;
             let cells = counts.cells;
             let types = &sheet[1..1 + inputs];
-            match buffers::check_buffers(&forms, cells, types, outputs, memory, input, output) {
+            match buffers::check_buffers(&map.cells, cells, types, outputs, memory, input, output) {
                 Tested::Refused { why, place } => Given::Refused { why, place },
                 Tested::Fine => {
                     let wire_types = &sheet[2 + inputs..2 + inputs + wires];
-                    put_fixed(wire_types, firsts, memory, input, words);
+                    put_fixed(wire_types, &map.firsts, memory, input, words);
                     parts(inputs, wires, outputs)
                 }
             }

@@ -11,6 +11,7 @@ ghost use Rattle.in_rounds.specs.Showing.{Prepares};
 use given::Given;
 use kernel::InRounds;
 use sheet::Refusal;
+use sheet_expressions::map::Map;
 
 // What an instant in rounds comes to before anything is stored: a refusal, or the rounds, and where the types of the wires stand.
 #[derive(Clone, Copy)]
@@ -31,18 +32,9 @@ pub fn instant(sheet: &[u8], memory: &mut [u8], input: &[u8], output: &mut [u8])
     ensures { Leaves (rounds_call sheet.now memory.old input.now output.old)
         result memory.new output.new }
 {
-    let mut places = [0u16; 64];
-    let mut firsts = [0u8; 64];
+    let mut map = Map::empty();
     let mut words = [0u32; 144];
-    match show(
-        sheet,
-        memory,
-        input,
-        output,
-        &mut places,
-        &mut firsts,
-        &mut words,
-    ) {
+    match show(sheet, memory, input, output, &mut map, &mut words) {
         Shown::Refused { why, place } => InRounds::Refused { why, place },
         Shown::Accepted {
             rounds,
@@ -53,8 +45,8 @@ pub fn instant(sheet: &[u8], memory: &mut [u8], input: &[u8], output: &mut [u8])
                 sheet,
                 memory,
                 &sheet[types_from..types_to],
-                &places,
-                &firsts,
+                &map.places,
+                &map.firsts,
                 &words,
             );
             InRounds::Accepted { rounds }
@@ -67,18 +59,9 @@ pub fn preview(sheet: &[u8], memory: &[u8], input: &[u8], output: &mut [u8]) -> 
     ensures { Shows (rounds_call sheet.now memory.now input.now output.old)
         result output.new }
 {
-    let mut places = [0u16; 64];
-    let mut firsts = [0u8; 64];
+    let mut map = Map::empty();
     let mut words = [0u32; 144];
-    match show(
-        sheet,
-        memory,
-        input,
-        output,
-        &mut places,
-        &mut firsts,
-        &mut words,
-    ) {
+    match show(sheet, memory, input, output, &mut map, &mut words) {
         Shown::Refused { why, place } => InRounds::Refused { why, place },
         Shown::Accepted {
             rounds,
@@ -95,18 +78,14 @@ fn show(
     memory: &[u8],
     input: &[u8],
     output: &mut [u8],
-    places: &mut [u16; 64],
-    firsts: &mut [u8; 64],
+    map: &mut Map,
     words: &mut [u32; 144],
 ) -> Shown
-    requires { (64 ≤ length places.old) × (64 ≤ length firsts.old) × (length words.old ≡ word_count) }
+    requires { length words.old ≡ word_count }
     ensures { Prepares (rounds_call sheet.now memory.now input.now output.old)
-        sheet.now memory.now places.new firsts.new words.new result output.new }
+        sheet.now memory.now map.new.places map.new.firsts words.new result output.new }
 {
-    let mut reads = [0u64; 64];
-    match given::given_of(
-        sheet, memory, input, output, places, firsts, &mut reads, words,
-    ) {
+    match given::given_of(sheet, memory, input, output, map, words) {
         Given::Refused { why, place } => Shown::Refused { why, place },
         Given::Passed {
             types_from,
@@ -115,7 +94,15 @@ fn show(
             outputs_to,
         } => {
             let types = &sheet[types_from..types_to];
-            let solved = rounds::finish(sheet, memory, types, places, firsts, &reads, words);
+            let solved = rounds::finish(
+                sheet,
+                memory,
+                types,
+                &map.places,
+                &map.firsts,
+                &map.reads,
+                words,
+            );
             let known = solved.known;
             if known.count() as usize == types.len() {
                 rounds::write_row(&sheet[outputs_from..outputs_to], words, output);
@@ -126,7 +113,14 @@ fn show(
                 };
             }
             let place = waiting::lowest_waiting(
-                sheet, memory, types, places, firsts, known, words, &mut reads,
+                sheet,
+                memory,
+                types,
+                &map.places,
+                &map.firsts,
+                known,
+                words,
+                &mut map.reads,
             );
             Shown::Refused {
                 why: Refusal::StaysUnknown,

@@ -13,6 +13,7 @@ use Rattle.sheet.specs.Laws.Headers.{SheetRead}
 use Rattle.sheet.proofs.Laws.Typing.{passed_check}
 use Rattle.sheet.specs.declared.Refusal.{Refusal}
 use Rattle.sheet.specs.declared.Counts.{Counts}
+use Rattle.sheet_expressions.specs.declared.map.Map.{Map}
 use Rattle.sheet_expressions.specs.Map.{Mapped, wires_of, EachHoldsJust}
 use Rattle.kernel.specs.Instants.{wire_count, reads_at}
 use Rattle.kernel.proofs.Laws.Reads.{reads-of-tree}
@@ -32,9 +33,9 @@ pub record Passes (s rows : List ℕ) (wires : ℕ) : Type 0 where
   pub held : EachHoldsJust rows wires (reads_of sheet)
   pub room : 64 ≤ length rows
 
-pub passes : (s : List ℕ) {places firsts rows cells : List ℕ} (counts : Counts) → check_of s ≡ Ok counts
-    → ((sheet : Sheet) (n k : ℕ) (v : SheetRead s sheet n k) → Mapped (wires_of v) places firsts rows cells) → Passes s rows counts.wires
-passes s {rows = rows} counts e map =
+pub passes : (s : List ℕ) {map : Map} (counts : Counts) → check_of s ≡ Ok counts
+    → ((sheet : Sheet) (n k : ℕ) (v : SheetRead s sheet n k) → Mapped (wires_of v) map) → Passes s map.reads counts.wires
+passes s counts e mapped =
     let p = check_passed s counts e in
     let passed = passed_check s p.outcome in
     let v = p.view in
@@ -48,8 +49,8 @@ passes s {rows = rows} counts e map =
       counted = counted;
       few = p.few-wires;
       held = λ x l. rw (ap (λ sheet. reads_at sheet.expressions x) v.is, reads-of-tree)
-          ((map p.sheet p.end counts.cells v).sites.read x (omega arith));
-      room = (map p.sheet p.end counts.cells v).sites.room;
+          ((mapped p.sheet p.end counts.cells v).sites.read x (omega arith));
+      room = (mapped p.sheet p.end counts.cells v).sites.room;
     }
 
 module _ (s lent : List ℕ) where

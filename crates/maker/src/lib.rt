@@ -18,6 +18,7 @@ ghost use Rattle.maker.specs.Placing.{Makes};
 ghost use Rattle.maker.specs.declared.Made.TheVariants.{Refused, Done};
 
 use sheet::Refusal;
+use sheet_expressions::map::Map;
 
 // What the maker answers: a refusal, or the greatest depth of the sheet's wires.
 #[derive(Clone, Copy)]
@@ -32,16 +33,13 @@ pub fn make(sheet: &[u8], list: &mut [u8]) -> Made
     ensures value { result ≡ (maker_call sheet.now list.old).answer }
     ensures list_after { list.new ≡ (maker_call sheet.now list.old).list }
 {
-    let mut places = [0u16; 64];
-    let mut firsts = [0u8; 64];
-    let mut reads = [0u64; 64];
-    let mut cells = [0u16; 64];
-    match sheet_check::check_map(sheet, &mut places, &mut firsts, &mut reads, &mut cells) {
+    let mut map = Map::empty();
+    match sheet_check::check_map(sheet, &mut map) {
         Err(refused) => Made::Refused {
             why: refused.why,
             place: refused.place,
         },
-        Ok(counts) => make_list(&mut reads, counts.wires, list),
+        Ok(counts) => make_list(&mut map.reads, counts.wires, list),
     }
 }
 

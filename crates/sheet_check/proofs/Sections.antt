@@ -14,6 +14,7 @@ use Rattle.sheet.specs.Laws.Headers.{SectionGood, section-length, section-byte, 
 use Rattle.sheet.specs.declared.Refusal.TheVariants.{TypeByte, OutputWire}
 use Rattle.sheet_expressions.specs.Map.{TypeBytes, Mapped, Drawn, wires_of, WhereGot}
 use Rattle.sheet.specs.Readings.{got_at}
+use Rattle.sheet_expressions.specs.declared.map.Map.{Map}
 
 -- the k bytes up to n, which the code lends by their two ends
 pub span : {s : List ℕ} {at fewest excess limit n k : ℕ} → SectionGood s at fewest excess limit n k → n - (n - k) ≡ k
@@ -31,11 +32,11 @@ section-types {s} {limit = limit} {n = n} {k = k} most some g =
         rw (get_or-eq_default (before s n k) 0 {n = i} (omega (arith, section-length g, ltb-false i k e))) (omega arith)
 
 -- the map of a sheet that reads, section by section
-pub sheet_mapped : {s : List ℕ} {sheet : Sheet} {n k : ℕ} (v : SheetRead s sheet n k) {next count : ℕ} {places firsts reads cells : List ℕ}
+pub sheet_mapped : {s : List ℕ} {sheet : Sheet} {n k : ℕ} (v : SheetRead s sheet n k) {next count : ℕ} {map : Map}
     → section_of s 0 0 17 2 false TypeByte ≡ got_at next count
     → WhereGot (section_of s next 1 65 4 false TypeByte)
     (λ m j. WhereGot (section_of s m 1 17 (length (before s m j)) true OutputWire) (λ o i.
-    Drawn (before s next count) (before s m j) s o places firsts reads cells)) → Mapped (wires_of v) places firsts reads cells
+    Drawn (before s next count) (before s m j) s o map)) → Mapped (wires_of v) map
 sheet_mapped {s} {sheet} {n} {k} v {next} {count} e h =
     let next-is : next ≡ v.inputs_end = got-next (sym v.inputs ∙ e) in
     let count-is : count ≡ v.input_count = got-count (sym v.inputs ∙ e) in

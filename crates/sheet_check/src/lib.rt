@@ -7,33 +7,24 @@ ghost use Rattle.sheet.specs.Headers.{section_of};
 ghost use Rattle.sheet.specs.Sheets.{Sheet, before, checked_of, expressions_from, outputs_from, wires_from, check_of};
 ghost use Rattle.sheet.specs.Laws.Headers.{SheetRead};
 ghost use Rattle.sheet.specs.declared.Refusal.TheVariants.{TypeByte, OutputWire};
-ghost use Rattle.sheet_expressions.specs.Map.{TypeBytes, Tables, Drawn, Mapped, wires_of, WhereGot};
+ghost use Rattle.sheet_expressions.specs.Map.{TypeBytes, Drawn, Mapped, wires_of, WhereGot};
 
 use sheet::{Counts, Refusal, Refused};
+use sheet_expressions::map::Map;
 
 // The check of any bytes: the four counts of a sheet, or the first refusal with its place.
 pub fn check(sheet: &[u8]) -> Result<Counts, Refused>
     ensures { result ≡ check_of sheet.now }
 {
-    let mut places = [0u16; 64];
-    let mut firsts = [0u8; 64];
-    let mut reads = [0u64; 64];
-    let mut cells = [0u16; 64];
-    check_map(sheet, &mut places, &mut firsts, &mut reads, &mut cells)
+    let mut map = Map::empty();
+    check_map(sheet, &mut map)
 }
 
 // The check, which draws the map of a sheet that passes.
-pub fn check_map(
-    sheet: &[u8],
-    places: &mut [u16; 64],
-    firsts: &mut [u8; 64],
-    reads: &mut [u64; 64],
-    cells: &mut [u16; 64],
-) -> Result<Counts, Refused>
-    requires { Tables places.old firsts.old reads.old cells.old }
+pub fn check_map(sheet: &[u8], map: &mut Map) -> Result<Counts, Refused>
     ensures value { result ≡ check_of sheet.now }
     ensures mapped { (s : Sheet) (n k : ℕ) (v : SheetRead sheet.now s n k)
-        → Mapped (wires_of v) places.new firsts.new reads.new cells.new }
+        → Mapped (wires_of v) map.new }
 {
     if sheet.len() == 0 {
         return Err(Refusal::SheetLength.at(0));
@@ -46,30 +37,17 @@ pub fn check_map(
         sheet,
         &sheet[found.next - found.count..found.next],
         found.next,
-        places,
-        firsts,
-        reads,
-        cells,
+        map,
     )
 }
 
 // The rest of a sheet from `at` on: the wires, each with its type, kept or not.
-fn wires_from(
-    sheet: &[u8],
-    inputs: &[u8],
-    at: usize,
-    places: &mut [u16; 64],
-    firsts: &mut [u8; 64],
-    reads: &mut [u64; 64],
-    cells: &mut [u16; 64],
-) -> Result<Counts, Refused>
-    requires { TypeBytes 2 inputs.now × (length sheet.now ≤ 4096)
-        × Tables places.old firsts.old reads.old cells.old }
+fn wires_from(sheet: &[u8], inputs: &[u8], at: usize, map: &mut Map) -> Result<Counts, Refused>
+    requires { TypeBytes 2 inputs.now × (length sheet.now ≤ 4096) }
     ensures value { result ≡ checked_of (wires_from sheet.now inputs.now at) }
     ensures where_got { WhereGot (section_of sheet.now at 1 65 4 false TypeByte) (λ n k.
         WhereGot (section_of sheet.now n 1 17 (length (before sheet.now n k)) true OutputWire) (λ m j.
-        Drawn inputs.now (before sheet.now n k) sheet.now m
-        places.new firsts.new reads.new cells.new)) }
+        Drawn inputs.now (before sheet.now n k) sheet.now m map.new)) }
 {
     let found = sheet_header::section(sheet, at, 1, 65, 4, false, Refusal::TypeByte)?;
     outputs_from(
@@ -77,10 +55,7 @@ fn wires_from(
         inputs,
         &sheet[found.next - found.count..found.next],
         found.next,
-        places,
-        firsts,
-        reads,
-        cells,
+        map,
     )
 }
 
@@ -90,17 +65,12 @@ fn outputs_from(
     inputs: &[u8],
     wires: &[u8],
     at: usize,
-    places: &mut [u16; 64],
-    firsts: &mut [u8; 64],
-    reads: &mut [u64; 64],
-    cells: &mut [u16; 64],
+    map: &mut Map,
 ) -> Result<Counts, Refused>
-    requires { TypeBytes 2 inputs.now × TypeBytes 4 wires.now × (length sheet.now ≤ 4096)
-        × Tables places.old firsts.old reads.old cells.old }
+    requires { TypeBytes 2 inputs.now × TypeBytes 4 wires.now × (length sheet.now ≤ 4096) }
     ensures value { result ≡ checked_of (outputs_from sheet.now inputs.now wires.now at) }
     ensures where_got { WhereGot (section_of sheet.now at 1 17 (length wires.now) true OutputWire) (λ n k.
-        Drawn inputs.now wires.now sheet.now n
-        places.new firsts.new reads.new cells.new) }
+        Drawn inputs.now wires.now sheet.now n map.new) }
 {
     let found = sheet_header::section(sheet, at, 1, 17, wires.len(), true, Refusal::OutputWire)?;
     expressions_from(
@@ -109,10 +79,7 @@ fn outputs_from(
         wires,
         &sheet[found.next - found.count..found.next],
         found.next,
-        places,
-        firsts,
-        reads,
-        cells,
+        map,
     )
 }
 
@@ -123,22 +90,15 @@ fn expressions_from(
     wires: &[u8],
     outputs: &[u8],
     at: usize,
-    places: &mut [u16; 64],
-    firsts: &mut [u8; 64],
-    reads: &mut [u64; 64],
-    cells: &mut [u16; 64],
+    map: &mut Map,
 ) -> Result<Counts, Refused>
-    requires { TypeBytes 2 inputs.now × TypeBytes 4 wires.now × (length sheet.now ≤ 4096) × (at ≤ length sheet.now)
-        × Tables places.old firsts.old reads.old cells.old }
+    requires { TypeBytes 2 inputs.now × TypeBytes 4 wires.now × (length sheet.now ≤ 4096) × (at ≤ length sheet.now) }
     ensures value { result ≡ checked_of (expressions_from sheet.now inputs.now wires.now
         outputs.now at) }
-    ensures drawn { Drawn inputs.now wires.now sheet.now at
-        places.new firsts.new reads.new cells.new }
+    ensures drawn { Drawn inputs.now wires.now sheet.now at map.new }
 {
     let mut names = sheet_names::names_of(inputs, wires);
-    let found = sheet_expressions::check_wires(
-        &sheet, &mut names, wires, at, places, firsts, reads, cells,
-    )?;
+    let found = sheet_expressions::check_wires(&sheet, &mut names, wires, at, map)?;
     if found.next < sheet.len() {
         return Err(Refusal::LeftOver.at(found.next));
     }

@@ -19,15 +19,14 @@ use Rattle.sheet.specs.Sheets.{forms_of, expression_at, cells_before, wire_tree,
 use Rattle.sheet.specs.Laws.Readings.{not_good, got-next, got-count}
 use Rattle.sheet.proofs.Laws.Wires.{kept-few, all-extent}
 use Rattle.sheet.specs.declared.Datum.TheVariants.{Boolean}
-use Rattle.sheet.specs.declared.Refusal.{Refusal}
 use Rattle.sheet_names.proofs.Numbers.{kept_from}
 use Rattle.sheet_own.specs.Own.{Joins}
 use Rattle.sheet_expressions.specs.Map.{WiresRead, StartsAt, Entered, kept_forms, HoldsJust, EachHoldsJust, Checks, Mapped, Drawn}
 use Rattle.sheet_expressions.proofs.Noting.{entered-none, entered-append, pairs-length}
 use Rattle.sheet_expressions.proofs.Locating.{Left, all_left, each-tree, turn}
-use Rattle.sheet.specs.Outcomes.{refused_at}
 use Rattle.sheet.specs.Readings.{got_at}
 use Rattle.sheet.specs.declared.Got.{Got}
+use Rattle.sheet_expressions.specs.declared.map.Map.{Map}
 use Rattle.sheet.specs.declared.Refused.{Refused}
 use Rattle.std.specs.Prelude.{Result, Err}
 
@@ -128,7 +127,7 @@ module _ {s : List ℕ} {wires at : ℕ} (run : WiresRead s wires at) where
 
   -- all of them
   pub all-drawn : {w next count : ℕ} {places firsts reads before cells : List ℕ} → wires ≤ 64 → wires ≤ w → length before ≡ 64
-      → 64 ≤ length reads → Drawing w next count places firsts reads before cells → Mapped run places firsts reads cells
+      → 64 ≤ length reads → Drawing w next count places firsts reads before cells → Mapped run (record { places = places; firsts = firsts; reads = reads; cells = cells })
   all-drawn {w} {next} {count} {before = before} {cells = cells} few over room set_room d =
       let extent = all-extent run.inputs run.types s at run.reads in
       let whole : take w run.trees ≡ run.trees = take_all w run.trees (omega (arith, run.sized, extent.sized)) in
@@ -145,6 +144,6 @@ module _ {s : List ℕ} {wires at : ℕ} (run : WiresRead s wires at) where
       }
 
 -- nothing is said of wires that are refused
-pub run-refused : {inputs types s : List ℕ} {at : ℕ} {r : Refused} {places firsts reads cells : List ℕ}
-    → Err r ≡ erased (read_wires inputs types s at) → Drawn inputs types s at places firsts reads cells
+pub run-refused : {inputs types s : List ℕ} {at : ℕ} {r : Refused} {map : Map}
+    → Err r ≡ erased (read_wires inputs types s at) → Drawn inputs types s at map
 run-refused e = record { maps = λ trees n k each. not_good (e ∙ ap erased each) }

@@ -27,12 +27,10 @@ use Rattle.sheet.specs.Laws.Readings.{not_good, got-next, got-count, kinds-betwe
 use Rattle.sheet.specs.Laws.Readings.{own-starts, forms_of-kind, own_forms_length, forms_length, operands-counted}
 use Rattle.sheet.specs.Laws.Readings.{ExpressionExtent, expression_extent, run-extent}
 use Rattle.sheet.proofs.Laws.Reads.{reads-of-kind}
-use Rattle.sheet.specs.declared.Refusal.{Refusal}
 use Rattle.sheet_own.specs.Own.{Joins, LeafChecks, own_entries}
 use Rattle.sheet_own.proofs.Nodes.{leaf-owned}
 use Rattle.sheet_expressions.specs.Map.{no_owner, CellNoted, Entered, kept_forms, Checks}
 use Rattle.sheet_expressions.proofs.Steps.{own-refused, own-passed, by-operands, is-got}
-use Rattle.sheet.specs.Outcomes.{refused_at}
 use Rattle.sheet.specs.Readings.{got_at}
 use Rattle.sheet.specs.declared.Got.{Got}
 use Rattle.sheet.specs.declared.Refused.{Refused}

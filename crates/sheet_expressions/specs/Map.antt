@@ -17,9 +17,8 @@ use Rattle.sheet_names.specs.Naming.{ahead_in, Naming}
 use Rattle.sheet_own.specs.Own.{Joins, HasOperands}
 use Rattle.sheet.specs.declared.Cell.{Cell}
 use Rattle.sheet.specs.declared.Cell.TheVariants.{Started}
-use Rattle.sheet.specs.Outcomes.{refused_at}
-use Rattle.sheet.specs.Readings.{got_at}
 use Rattle.sheet.specs.declared.Got.{Got}
+use Rattle.sheet_expressions.specs.declared.map.Map.{Map}
 use Rattle.sheet.specs.declared.Refused.{Refused}
 use Rattle.std.specs.Prelude.{Result, Ok, Err}
 
@@ -119,10 +118,10 @@ pub record Sited {s : List ℕ} {wires at : ℕ} (run : WiresRead s wires at) (p
   pub room : 64 ≤ length reads
 
 -- and each cell was noted, in a table of 64
-pub record Mapped {s : List ℕ} {wires at : ℕ} (run : WiresRead s wires at) (places firsts reads cells : List ℕ) : Type 0 where
-  pub sites : Sited run places firsts reads
-  pub cell : Pairwise (CellNoted s) (forms_of run.trees) (take run.count cells)
-  pub cell_room : length cells ≡ 64
+pub record Mapped {s : List ℕ} {wires at : ℕ} (run : WiresRead s wires at) (map : Map) : Type 0 where
+  pub sites : Sited run map.places map.firsts map.reads
+  pub cell : Pairwise (CellNoted s) (forms_of run.trees) (take run.count map.cells)
+  pub cell_room : length map.cells ≡ 64
 
 -- the expressions of wires of these types, as they read from `at` on
 abbrev pub run_of : (inputs types s : List ℕ) (at : ℕ) (trees : List Expression) (n k : ℕ)
@@ -131,14 +130,14 @@ run_of inputs types s at trees n k each =
     record { inputs = inputs; types = types; trees = trees; next = n; count = k; sized = refl; reads = each }
 
 -- where the expressions of the wires from `at` on read, the map is theirs
-pub record Drawn (inputs types s : List ℕ) (at : ℕ) (places firsts reads cells : List ℕ) : Type 0 where
+pub record Drawn (inputs types s : List ℕ) (at : ℕ) (map : Map) : Type 0 where
   pub maps : (trees : List Expression) (n k : ℕ) (each : read_wires inputs types s at ≡ got trees n k)
-      → Mapped (run_of inputs types s at trees n k each) places firsts reads cells
+      → Mapped (run_of inputs types s at trees n k each) map
 
 -- the answer is that of the expressions of the wires from `at` on, and the map is theirs
-pub record WiresChecked (inputs types s : List ℕ) (at : ℕ) (answer : Result Got Refused) (places firsts reads cells : List ℕ) : Type 0 where
+pub record WiresChecked (inputs types s : List ℕ) (at : ℕ) (answer : Result Got Refused) (map : Map) : Type 0 where
   pub answers : answer ≡ erased (read_wires inputs types s at)
-  pub drawn : Drawn inputs types s at places firsts reads cells
+  pub drawn : Drawn inputs types s at map
 
 -- the expressions of a sheet that reads
 abbrev pub wires_of : {s : List ℕ} {sheet : Sheet} {n k : ℕ} (v : SheetRead s sheet n k)
@@ -155,10 +154,3 @@ WhereGot (Ok a) P = P a.next a.count
 pub record TypeBytes (limit : ℕ) (types : List ℕ) : Type 0 where
   pub few : length types ≤ 64
   pub each : (i : ℕ) → get_or types i 0 < limit
-
--- lists with room for 64 wires and 64 cells
-pub record Tables (places firsts reads cells : List ℕ) : Type 0 where
-  pub for_places : 64 ≤ length places
-  pub for_firsts : 64 ≤ length firsts
-  pub for_reads : 64 ≤ length reads
-  pub for_cells : length cells ≡ 64

@@ -13,8 +13,9 @@ ghost use Rattle.sheet.specs.Readings.{read_each, read_expression};
 ghost use Rattle.sheet.specs.Sheets.{forms_of, own_cells, kept_count};
 ghost use Rattle.sheet_names.specs.Naming.{ahead_in};
 ghost use Rattle.sheet_own.specs.Own.{Lookup};
-ghost use Rattle.sheet_expressions.specs.Map.{TypeBytes, WiresLookup, Tables, Checks, NodeAt, KeptNoted, WiresChecked};
+ghost use Rattle.sheet_expressions.specs.Map.{TypeBytes, WiresLookup, Checks, NodeAt, KeptNoted, WiresChecked};
 
+use map::Map;
 use sheet::{Got, Refusal, Refused, kinds};
 use wires::Wires;
 
@@ -219,34 +220,29 @@ pub fn check_wires(
     names: &mut [u64; 10],
     types: &[u8],
     at: usize,
-    places: &mut [u16; 64],
-    firsts: &mut [u8; 64],
-    reads: &mut [u64; 64],
-    cells: &mut [u16; 64],
+    map: &mut Map,
 ) -> Result<Got, Refused>
     requires wires_lookup { WiresLookup types.now names.old × TypeBytes 4 types.now × (length sheet.now.now ≤ 4096)
-        × (at ≤ length sheet.now.now) × Tables places.old firsts.old reads.old cells.old }
+        × (at ≤ length sheet.now.now) }
     requires names_value { ahead_in names.old ≡ kept_count types.now }
     ensures { (l : WiresLookup types.now names.old)
-        → WiresChecked l.inputs types.now sheet.now.now at result
-        places.new firsts.new reads.new cells.new }
+        → WiresChecked l.inputs types.now sheet.now.now at result map.new }
 {
     let mut next = at;
     let mut count = sheet_names::ahead(names);
-    let mut w = 0;
-    while w < types.len() {
+    for w in 0..types.len() {
         let byte = types[w];
+        let cells = &mut map.cells;
         note_kept(byte, count, names, cells);
         let first = count - sheet_names::ahead(names);
-        places[w] = next as u16;
-        firsts[w] = first as u8;
+        map.places[w] = next as u16;
+        map.firsts[w] = first as u8;
         let none = Wires::none();
         let mut found = none.bits;
         let one = check_whole(sheet, names, byte % 2, next, count, cells, &mut found)?;
-        reads[w] = found;
+        map.reads[w] = found;
         next = one.next;
         count = one.count;
-        w += 1;
     }
     Ok(Got { next, count })
 }

@@ -15,6 +15,7 @@ use Rattle.sheet.specs.Laws.Headers.{SheetRead}
 use Rattle.sheet.specs.declared.Refusal.{Refusal}
 use Rattle.sheet.specs.declared.Refusal.TheVariants.{MemoryLength}
 use Rattle.sheet_expressions.specs.Map.{Mapped, wires_of}
+use Rattle.sheet_expressions.specs.declared.map.Map.{Map}
 use Rattle.sheet_start.specs.Owners.{Noted, Starts}
 use Rattle.sheet.specs.Outcomes.{refused_at}
 use Rattle.sheet.specs.declared.Refused.{Refused}
@@ -28,10 +29,10 @@ pub record Passes (s entries : List ℕ) (count : ℕ) : Type 0 where
   pub noted : Noted s entries count
   pub same : noted.forms ≡ sheet_forms sheet
 
-pub passes : (s : List ℕ) {places firsts reads entries : List ℕ} (counts : Counts) → check_of s ≡ Ok counts
-    → ((sheet : Sheet) (n k : ℕ) (v : SheetRead s sheet n k) → Mapped (wires_of v) places firsts reads entries)
-    → Passes s entries counts.cells
-passes s counts e map =
+pub passes : (s : List ℕ) {map : Map} (counts : Counts) → check_of s ≡ Ok counts
+    → ((sheet : Sheet) (n k : ℕ) (v : SheetRead s sheet n k) → Mapped (wires_of v) map)
+    → Passes s map.cells counts.cells
+passes s counts e mapped =
     let p = check_passed s counts e in
     let v = p.view in
     let same : forms_of v.expressions ≡ sheet_forms p.sheet = sym (ap sheet_forms v.is) in
@@ -42,7 +43,7 @@ passes s counts e map =
         forms = forms_of v.expressions;
         few = p.few-cells;
         counted = sym (ap length same ∙ p.cells_are);
-        noted = (map p.sheet p.end counts.cells v).cell;
+        noted = (mapped p.sheet p.end counts.cells v).cell;
       };
       same = same;
     }

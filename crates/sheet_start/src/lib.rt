@@ -11,18 +11,16 @@ ghost use Rattle.sheet.specs.Outcomes.{refused_at};
 ghost use Rattle.sheet_start.specs.Owners.{Noted, Starts};
 
 use sheet::{Cell, Refusal, Refused, data, memory};
+use sheet_expressions::map::Map;
 
 // The start: the memory gets its starting cells, or it is left as it is where 1 to 12 refuse.
 pub fn start(sheet: &[u8], memory: &mut [u8]) -> Result<(), Refused>
     ensures value { result ≡ (start_call sheet.now memory.old).answer }
     ensures memory_after { memory.new ≡ (start_call sheet.now memory.old).memory }
 {
-    let mut places = [0u16; 64];
-    let mut firsts = [0u8; 64];
-    let mut reads = [0u64; 64];
-    let mut cells = [0u16; 64];
-    let counts = sheet_check::check_map(sheet, &mut places, &mut firsts, &mut reads, &mut cells)?;
-    start_cells(sheet, &cells, counts.cells, memory)
+    let mut map = Map::empty();
+    let counts = sheet_check::check_map(sheet, &mut map)?;
+    start_cells(sheet, &map.cells, counts.cells, memory)
 }
 
 // The start of a sheet that passes the check: 12 where the memory has another length.

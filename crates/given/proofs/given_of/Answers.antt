@@ -75,7 +75,7 @@ put_fixed-requires c =
     let (within, kept, count) = rw (is, p.inputs_are, p.wires-are)
     at (grants-kept _ _ _ _ _ _ _ given passes (λ sheet n k v. (c.in-Ok.ensures.mapped sheet n k v).sites)
     (λ i. omega (arith, c.type_inv.memory i))) in
-    (kept, count, input-length _ _ _ _ _ passes, c.requires.3)
+    (kept, count, input-length _ _ _ _ _ passes, c.requires)
 
 pub parts-requires : goal.parts-requires
 parts-requires c =

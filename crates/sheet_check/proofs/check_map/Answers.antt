@@ -47,7 +47,6 @@ wires_from-requires c =
     let g = section_good c.args.sheet.now 0 0 17 2 false TypeByte (sym c.in_ok-found.ensures) in (
       rw (span g) (section-types (omega arith) (omega arith) g),
       omega (arith, c.if-sheet-gt4096.false),
-      c.requires,
     )
 
 pub returns-in_err-found : goal.returns-in_err-found

@@ -12,7 +12,7 @@ pub check_wires-requires : goal.check_wires-requires
 check_wires-requires c = let p = c.requires in
     let n = c.names_of-names.ensures in
     record {
-      wires_lookup = (record { inputs = _; naming = n.naming }, p.1, p.2, p.3, p.4);
+      wires_lookup = (record { inputs = _; naming = n.naming }, p.1, p.2, p.3);
       names_value = n.result_value;
     }
 

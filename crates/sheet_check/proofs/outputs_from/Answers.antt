@@ -1,5 +1,5 @@
 -- `outputs_from` meets its contract: the section of the outputs, and what follows it.
-use mathlib.Core.Path.{refl, sym, ◌∙◌}
+use mathlib.Core.Path.{sym}
 use mathlib.Core.Bool.{true}
 use native.Mathlib.Omega.{arith}
 use lib.ListN.{length}
@@ -19,7 +19,7 @@ slice_bounds-expressions_from-end c = (section_good c.args.sheet.now c.args.at 1
 pub expressions_from-requires : goal.expressions_from-requires
 expressions_from-requires c =
     let p = c.requires in
-    (p.0, p.1, p.2, (section_good c.args.sheet.now c.args.at 1 17 (length c.args.wires.now) true OutputWire (sym c.in_ok-found.ensures)).bytes.within, p.3)
+    (p.0, p.1, p.2, (section_good c.args.sheet.now c.args.at 1 17 (length c.args.wires.now) true OutputWire (sym c.in_ok-found.ensures)).bytes.within)
 
 pub returns-in_err-found : goal.returns-in_err-found
 unfolding outputs_from

@@ -1,5 +1,5 @@
 -- `wires_from` meets its contract: the section of the wires, and what follows it.
-use mathlib.Core.Path.{refl, sym, ◌∙◌}
+use mathlib.Core.Path.{sym}
 use mathlib.Core.Bool.{false}
 use native.Mathlib.Omega.{arith}
 use Rattle.sheet.specs.declared.Refusal.TheVariants.{TypeByte}
@@ -19,7 +19,7 @@ pub outputs_from-requires : goal.outputs_from-requires
 outputs_from-requires c =
     let p = c.requires in
     let g = section_good c.args.sheet.now c.args.at 1 65 4 false TypeByte (sym c.in_ok-found.ensures) in
-    (p.0, rw (span g) (section-types (omega arith) (omega arith) g), p.1, p.2)
+    (p.0, rw (span g) (section-types (omega arith) (omega arith) g), p.1)
 
 pub returns-in_err-found : goal.returns-in_err-found
 unfolding wires_from

@@ -31,16 +31,12 @@ later types more same room e = (omega (arith, kept_from types _ more), omega ari
 pub loop-w-init : goal.loop-w-init
 unfolding read_wires
 loop-w-init c =
-    let start = c in
-    let a = start.args in
-    let p = start.requires in
+    let a = c.args in
+    let p = c.requires in
     let all = c.ahead-count.ensures ∙ p.names_value in (
-      omega arith,
+      (omega arith, omega arith, omega arith),
       p.wires_lookup.3,
       omega (arith, kept-few a.types.now, p.wires_lookup.1.few),
-      refl,
-      refl,
-      refl,
       p.names_value,
       omega (arith, c.ahead-count.ensures),
       λ inputs naming. naming,
@@ -52,110 +48,69 @@ loop-w-init c =
 
 pub note_kept-requires : goal.note_kept-requires
 note_kept-requires c =
-    let turn = c in
-    let o = turn.loop-w in
-    let types = turn.args.types.now in
-    (omega (arith, o.invariant.6, kept_from types o.w turn.loop-w-test.true), o.invariant.7, o.invariant.2)
-
-pub overflow_sub-first : goal.overflow_sub-first
-overflow_sub-first c = omega (arith, c.ahead.ensures, (later c.args.types.now c.loop-w-test.true c.loop-w.invariant.6 c.loop-w.invariant.7 c.note_kept.ensures.ahead).1)
-
-pub overflow_cast-places : goal.overflow_cast-places
-overflow_cast-places c =
-    let start = c in
-    omega (arith, c.loop-w.invariant.1, start.requires.wires_lookup.2)
-
-pub bounds-places-w : goal.bounds-places-w
-bounds-places-w c =
-    omega (arith, c.requires.wires_lookup.1.few)
-
-pub overflow_cast-firsts : goal.overflow_cast-firsts
-overflow_cast-firsts c = omega (arith, c.loop-w.invariant.2)
-
-pub bounds-firsts-w : goal.bounds-firsts-w
-bounds-firsts-w c =
-    omega (arith, c.requires.wires_lookup.1.few)
+    let o = c.loop-w.invariant in
+    (omega (arith, o.3, kept_from c.args.types.now c.loop-w.w c.loop-w-test.true), o.4, o.2)
 
 pub check_whole-requires : goal.check_whole-requires
 check_whole-requires c =
-    let noted = c in
-    let start = c in
-    let p = start.requires.wires_lookup in
-    let o = noted.loop-w in (
-      lookup (noted.note_kept.ensures.naming _ _ (o.invariant.8 _ p.0.naming)),
+    let p = c.requires.wires_lookup in
+    let o = c.loop-w.invariant in (
+      lookup (c.note_kept.ensures.naming _ _ (o.5 _ p.0.naming)),
       omega arith,
-      o.invariant.2,
+      o.2,
       p.2,
-      (later c.args.types.now c.loop-w-test.true c.loop-w.invariant.6 c.loop-w.invariant.7 c.note_kept.ensures.ahead).1,
+      (later c.args.types.now c.loop-w-test.true o.3 o.4 c.note_kept.ensures.ahead).1,
     )
 
 pub returns-in_err-one : goal.returns-in_err-one
 returns-in_err-one c = λ l.
-    let noted = c in
-    let turn = c in
-    let a = turn.args in
-    let o = turn.loop-w in
+    let a = c.args in
+    let o = c.loop-w in
     let p = err_from_is_err_and c.from_residual.result c.from_residual.ensures.1 in
-    let one = c.in_err-one.ensures (lookup (noted.note_kept.ensures.naming _ _ (o.invariant.8 _ l.naming))) in
-    let refused = each-refused (read_wire l.inputs a.types.now a.sheet.now.now) a.types.now o.w o.next
-    o.count turn.loop-w-test.true
+    let one = c.in_err-one.ensures (lookup (c.note_kept.ensures.naming _ _ (o.invariant.5 _ l.naming))) in
+    let refused = each-refused (read_wire l.inputs a.types.now a.sheet.now.now) a.types.now o.w o.next o.count c.loop-w-test.true
     (sym (wire-erased l.inputs a.types.now a.sheet.now.now _ o.next o.count) ∙ sym one.answers)
-    ∙ (o.invariant.9 l).0 in
+    ∙ (o.invariant.6 l).0 in
     rw (p.1, p.2) (record { answers = refused; drawn = run-refused refused })
-
-pub bounds-reads-w : goal.bounds-reads-w
-bounds-reads-w c =
-    let start = c in
-    omega (arith, start.requires.wires_lookup.1.few)
 
 pub loop-w-preserved : goal.loop-w-preserved
 loop-w-preserved c =
-    let noted = c in
-    let turn = c in
-    let start = c in
-    let a = start.args in
-    let p = start.requires.wires_lookup in
-    let o = turn.loop-w in
-    let more = turn.loop-w-test.true in
+    let a = c.args in
+    let p = c.requires.wires_lookup in
+    let o = c.loop-w in
+    let more = c.loop-w-test.true in
     let e : Ok c.in_ok-one.one ≡ got_at c.in_ok-one.one.next c.in_ok-one.one.count = refl in
-    let ahead = c.ahead.ensures in
     let naming : (inputs : List ℕ) → Naming inputs a.types.now a.names.now → Naming inputs a.types.now _ =
-    λ inputs n. noted.note_kept.ensures.naming inputs a.types.now (o.invariant.8 inputs n) in
-    let behind = (extent p.0.inputs a.types.now a.sheet.now.now 16 _ o.next o.count
-    (c.in_ok-one.ensures (lookup (naming _ p.0.naming))) e).1 in
-    let few = p.1.few in (
-      omega arith,
+    λ inputs n. c.note_kept.ensures.naming inputs a.types.now (o.invariant.5 inputs n) in
+    let behind = (extent p.0.inputs a.types.now a.sheet.now.now 16 _ o.next o.count (c.in_ok-one.ensures (lookup (naming _ p.0.naming))) e).1 in
+    let (kept, room) = later a.types.now more o.invariant.3 o.invariant.4 c.note_kept.ensures.ahead in
+    let few : o.w < 64 = omega (arith, p.1.few) in (
+      (simp length-set o.invariant.0.0, simp length-set o.invariant.0.1, simp length-set o.invariant.0.2),
       behind.within,
       behind.limited,
-      simp length-set o.invariant.3,
-      simp length-set o.invariant.4,
-      simp length-set o.invariant.5,
-      (later c.args.types.now c.loop-w-test.true c.loop-w.invariant.6 c.loop-w.invariant.7 c.note_kept.ensures.ahead).0,
-      omega (arith, (later c.args.types.now c.loop-w-test.true c.loop-w.invariant.6 c.loop-w.invariant.7 c.note_kept.ensures.ahead).1, behind.counted),
+      kept,
+      omega (arith, room, behind.counted),
       naming,
       λ l. let one = c.in_ok-one.ensures (lookup (naming _ l.naming)) in (
         each_good (read_wire l.inputs a.types.now a.sheet.now.now) a.types.now o.w o.next o.count more
             (sym (wire-erased l.inputs a.types.now a.sheet.now.now _ o.next o.count) ∙ sym one.answers ∙ e)
-            ∙ (o.invariant.9 l).0,
-        λ trees n k each. rw ahead (wire-drawn (run_of l.inputs a.types.now a.sheet.now.now a.at trees n k each) more
-            (omega (arith, p.4.for_places, o.invariant.3)) (omega (arith, p.4.for_firsts, o.invariant.4))
-            (omega (arith, p.4.for_reads, o.invariant.5)) o.invariant.6 (later c.args.types.now c.loop-w-test.true c.loop-w.invariant.6 c.loop-w.invariant.7 c.note_kept.ensures.ahead).0 ((o.invariant.9 l).1 trees n k each)
-            (noted.note_kept.ensures.entered a.sheet.now.now) e
-            c.none-none.ensures one),
+            ∙ (o.invariant.6 l).0,
+        λ trees n k each. rw c.ahead.ensures (wire-drawn (run_of l.inputs a.types.now a.sheet.now.now a.at trees n k each) more
+            (omega (arith, o.invariant.0.0)) (omega (arith, o.invariant.0.1)) (omega (arith, o.invariant.0.2)) o.invariant.3 kept ((o.invariant.6 l).1 trees n k each)
+            (c.note_kept.ensures.entered a.sheet.now.now) e c.none-none.ensures one),
       ),
     )
 
 pub returns : goal.returns
 unfolding read_each
 returns c = λ l.
-    let start = c in
-    let a = start.args in
-    let p = start.requires.wires_lookup in
+    let a = c.args in
+    let p = c.requires.wires_lookup in
     let o = c.loop-w in
     record {
-      answers = rw (drop_of_length-le a.types.now c.loop-w-test.false) at (o.invariant.9 l).0;
+      answers = rw (drop_of_length-le a.types.now c.loop-w-test.false) at (o.invariant.6 l).0;
       drawn = record {
         maps = λ trees n k each. all-drawn (run_of l.inputs a.types.now a.sheet.now.now a.at trees n k each) p.1.few
-            c.loop-w-test.false p.4.for_cells (omega (arith, p.4.for_reads, o.invariant.5)) ((o.invariant.9 l).1 trees n k each);
+            c.loop-w-test.false (omega arith) o.invariant.0.2 ((o.invariant.6 l).1 trees n k each);
       };
     }

@@ -107,7 +107,7 @@ impl Kind {
     pub fn is_leaf(self) -> bool
         ensures { result ≡ ltb (byte_of self) 4 }
     {
-        (self as u8) < 4
+        is_leaf(self as u8)
     }
 
     // Its digit of a column.
@@ -181,6 +181,13 @@ impl Kind {
     {
         self.digit(WHERE_NUMBER) % 2
     }
+}
+
+// Whether a byte stands for a constant, a wire or an input, which has no operands and no cell.
+pub fn is_leaf(byte: u8) -> bool
+    ensures { result ≡ ltb byte 4 }
+{
+    byte < 4
 }
 
 // The type asked of operand i.

@@ -7,7 +7,8 @@ pub mod map;
 
 ghost use Rattle.std.specs.Prelude.{◌≡◌, cond, ◌-◌, ◌<◌, ◌≤◌, length, take};
 ghost use Rattle.sheet.specs.Expressions.{cell_forms};
-ghost use Rattle.sheet.specs.Kinds.{kind_count, read_count_of, operands_of};
+ghost use Rattle.sheet.specs.Kinds.{read_count_of, operands_of};
+ghost use Rattle.sheet.specs.KindBytes.{byte_of};
 ghost use Rattle.sheet.specs.Reads.{wires_read, all_read};
 ghost use Rattle.sheet.specs.Readings.{read_each, read_expression};
 ghost use Rattle.sheet.specs.Sheets.{forms_of, own_cells, kept_count};
@@ -16,6 +17,7 @@ ghost use Rattle.sheet_own.specs.Own.{Lookup};
 ghost use Rattle.sheet_expressions.specs.Map.{TypeBytes, WiresLookup, Checks, NodeAt, KeptNoted, WiresChecked};
 
 use map::Map;
+use sheet::kinds::Kind;
 use sheet::{Got, Refusal, Refused, kinds};
 use wires::Wires;
 
@@ -32,7 +34,7 @@ fn either(test: bool, yes: u64, no: u64) -> u64
 fn check_operands(
     sheet: &&[u8],
     names: &[u64; 10],
-    kind: u8,
+    kind: Kind,
     level: usize,
     asked: u8,
     at: usize,
@@ -40,17 +42,17 @@ fn check_operands(
     cells: &mut [u16; 64],
     reads: &mut u64,
 ) -> Result<Got, Refused>
-    requires { Lookup names.now × (kind < kind_count) × (asked < 2) × (count ≤ 64) × (length sheet.now.now ≤ 4096)
+    requires { Lookup names.now × (asked < 2) × (count ≤ 64) × (length sheet.now.now ≤ 4096)
         × (ahead_in names.now ≤ count) }
     ensures { (l : Lookup names.now)
-        → Checks sheet.now.now forms_of (λ es. all_read (take (read_count_of kind) es))
-        (read_each (read_expression l.inputs l.wires sheet.now.now level) (operands_of kind asked) at count)
+        → Checks sheet.now.now forms_of (λ es. all_read (take (read_count_of (byte_of kind)) es))
+        (read_each (read_expression l.inputs l.wires sheet.now.now level) (operands_of (byte_of kind) asked) at count)
         (count - ahead_in names.now) result
         cells.old cells.new reads.old reads.new }
 {
-    let operands = kinds::operands(kind);
-    let counted = kinds::read_operands(kind);
-    let types = kinds::operand_types(kind, asked);
+    let operands = kind.operands();
+    let counted = kind.read_operands();
+    let types = kind.operand_types(asked);
     let mut next = at;
     let mut behind = count;
     let mut i = 0;
@@ -88,8 +90,8 @@ fn check_node(
         cells.old cells.new reads.old reads.new }
 {
     let own = sheet_own::check_own(*sheet, at, count)?;
-    let kind = sheet[at];
-    if !kinds::fits(kind, asked) {
+    let kind = Kind::of(sheet[at]);
+    if !kind.fits(asked) {
         return Err(Refusal::TypeAsked.at(at));
     }
     let number = count - sheet_names::ahead(names);
@@ -107,8 +109,7 @@ fn check_node(
     )
 }
 
-// The expression at `at` behind `count` cells: 2, 6 and 8, then what its kind asks. Kind 18 and what is above it, a machine or no kind at all,
-// are told by one test from the other kinds, so that these take no test more.
+// The expression at `at` behind `count` cells: 2, 6 and 8, then what its kind asks.
 #[cycle(checking)]
 fn check_one(
     sheet: &&[u8],
@@ -130,25 +131,19 @@ fn check_one(
     if sheet.len() <= at {
         return Err(Refusal::Cut.at(sheet.len()));
     }
-    let kind = sheet[at];
-    if kinds::LAST <= kind {
-        if kinds::COUNT <= kind {
-            return Err(Refusal::Kind.at(at));
-        }
-        if level == 0 {
-            return Err(Refusal::Level.at(at));
-        }
-        if kind == kinds::LAST {
-            return sheet_own::check_last(*sheet, names, asked, at, count);
-        }
-    }
+    let Ok(kind) = Kind::try_from(sheet[at]) else {
+        return Err(Refusal::Kind.at(at));
+    };
     if level == 0 {
         return Err(Refusal::Level.at(at));
     }
-    if kind < 4 {
+    if kind.is_leaf() {
         return sheet_own::check_leaf(*sheet, names, asked, at, count, reads);
     }
-    check_node(sheet, names, level, asked, at, count, cells, reads)
+    match kind {
+        Kind::Last => sheet_own::check_last(*sheet, names, asked, at, count),
+        _ => check_node(sheet, names, level, asked, at, count, cells, reads),
+    }
 }
 
 // The expression of an operand. A leaf is checked without a call of its own: these are half of all.
@@ -170,7 +165,7 @@ fn check_operand(
         (read_expression l.inputs l.wires sheet.now.now level asked at count) (count - ahead_in names.now) result
         cells.old cells.new reads.old reads.new }
 {
-    if level == 0 || sheet.len() <= at || 4 <= sheet[at] {
+    if level == 0 || sheet.len() <= at || !kinds::is_leaf(sheet[at]) {
         return check_one(sheet, names, level, asked, at, count, cells, reads);
     }
     sheet_own::check_leaf(*sheet, names, asked, at, count, reads)
@@ -194,7 +189,7 @@ fn check_whole(
         (read_expression l.inputs l.wires sheet.now.now 16 asked at count) (count - ahead_in names.now) result
         cells.old cells.new reads.old reads.new }
 {
-    if sheet.len() <= at || 4 <= sheet[at] {
+    if sheet.len() <= at || !kinds::is_leaf(sheet[at]) {
         return check_one(sheet, names, 16, asked, at, count, cells, reads);
     }
     sheet_own::check_leaf(*sheet, names, asked, at, count, reads)

@@ -1,8 +1,11 @@
 -- `check_one`, `check_node`, `check_operand` and `check_operands` meet their contracts.
-use Rattle.std.proofs.Common.{ℕ, ◌<◌, ◌≤◌, ◌≡◌, sym, ap, ◌∙◌, List, arith, length, get_or}
+use Rattle.std.proofs.Common.{rules, ℕ, ◌<◌, ◌≤◌, ◌≡◌, sym, ap, ◌∙◌, List, arith, length, get_or}
 use mathlib.Core.Bool.{not}
 use lib.ListN.{drop_of_length-le}
 use Rattle.sheet.specs.Kinds.{kind_count, count_of, operands_of}
+use Rattle.sheet.specs.KindBytes.{byte_of}
+use Rattle.sheet.proofs.Table.{byte_few}
+use borrow.Author.Tests.{ltb-true}
 use Rattle.sheet.specs.Readings.{got_at, read_each, own_of, body_from, read_expression}
 use Rattle.sheet.specs.Laws.Readings.{own_good, operands-counted}
 use Rattle.sheet_names.specs.Naming.{ahead_in}
@@ -14,7 +17,6 @@ use Rattle.sheet_expressions.proofs.Steps.{type_wrong, type-right}
 use Rattle.sheet_expressions.proofs.Noting.{refused_checks, own-stops, extent, left_step, left-none, whole_checks}
 use Rattle.sheet_expressions.proofs.Noting.{leaf-bare, bare_checks, last_checks}
 use Rattle.sheet_expressions.proofs.+checking.Goals as goal
-use Rattle.sheet_expressions.proofs.+checking.Goals.{check_one-then-kind-ge-LAST+else-kind-ge-COUNT+else-level-eq0+else-kind-eq-LAST, check_one-else-kind-ge-LAST}
 use Rattle.sheet.specs.declared.Got.{Got}
 use Rattle.sheet.specs.declared.Refused.{Refused}
 use Rattle.std.specs.Prelude.{refl, Result, Ok, Err}
@@ -40,7 +42,7 @@ check_node-returns-then-not-fits t c = λ l.
     own-stops l.inputs l.wires a.sheet.now.now a.level a.asked a.at a.count (ap Err c.at.ensures)
     (node_is l.inputs l.wires a.sheet.now.now a.level a.asked a.at a.count (Ok c.in_ok-own.own) c.requires.1
     (c.in_ok-own.ensures l.inputs l.wires a.asked)
-    ∙ type_wrong (get_or a.sheet.now.now a.at 0) a.asked a.at _ _ c.fits.ensures (ap not c.if-not-fits.true))
+    ∙ type_wrong (get_or a.sheet.now.now a.at 0) a.asked a.at _ _ (rw c.of-kind.ensures at c.fits.ensures) (ap not c.if-not-fits.true))
 
 pub check_node-note_own-requires : goal.check_node-note_own-requires
 check_node-note_own-requires t c =
@@ -49,9 +51,9 @@ check_node-note_own-requires t c =
     let a = c.args in
     let own = node_is l.inputs l.wires a.sheet.now.now a.level a.asked a.at a.count (Ok c.in_ok-own.own) n
     (c.in_ok-own.ensures l.inputs l.wires a.asked)
-    ∙ type-right (get_or a.sheet.now.now a.at 0) a.asked a.at _ _ c.fits.ensures (ap not c.if-not-fits.false) in
+    ∙ type-right (get_or a.sheet.now.now a.at 0) a.asked a.at _ _ (rw c.of-kind.ensures at c.fits.ensures) (ap not c.if-not-fits.false) in
     let g = own_good l.inputs l.wires a.sheet.now.now a.level a.asked a.at a.count own in
-    (n.kind, n.asked, omega (arith, n.byte, n.few), λ e. omega (arith, g.cells, owner-cells _ e n.kind))
+    rw c.of-kind.ensures (n.kind, n.asked, omega (arith, n.byte, n.few), λ e. omega (arith, g.cells, owner-cells _ e n.kind))
 
 pub check_node-check_operands-requires : goal.check_node-check_operands-requires
 check_node-check_operands-requires t c =
@@ -60,12 +62,11 @@ check_node-check_operands-requires t c =
     let a = c.args in
     let own = node_is l.inputs l.wires a.sheet.now.now a.level a.asked a.at a.count (Ok c.in_ok-own.own) n
     (c.in_ok-own.ensures l.inputs l.wires a.asked)
-    ∙ type-right (get_or a.sheet.now.now a.at 0) a.asked a.at _ _ c.fits.ensures (ap not c.if-not-fits.false) in
+    ∙ type-right (get_or a.sheet.now.now a.at 0) a.asked a.at _ _ (rw c.of-kind.ensures at c.fits.ensures) (ap not c.if-not-fits.false) in
     let g = own_good l.inputs l.wires a.sheet.now.now a.level a.asked a.at a.count own in (
       omega (arith, n.levels),
       (
         l,
-        n.kind.known,
         n.asked,
         omega (arith, g.cells, g.count),
         n.few,
@@ -79,11 +80,11 @@ check_node-returns t c = λ l.
     let n = c.requires.1 in
     let own = node_is l.inputs l.wires a.sheet.now.now a.level a.asked a.at a.count (Ok c.in_ok-own.own) n
     (c.in_ok-own.ensures l.inputs l.wires a.asked)
-    ∙ type-right (get_or a.sheet.now.now a.at 0) a.asked a.at _ _ c.fits.ensures (ap not c.if-not-fits.false) in
+    ∙ type-right (get_or a.sheet.now.now a.at 0) a.asked a.at _ _ (rw c.of-kind.ensures at c.fits.ensures) (ap not c.if-not-fits.false) in
     whole_checks l.inputs l.wires a.sheet.now.now (ahead_in a.names.now) a.level a.asked a.at a.count n.asked
     n.few c.requires.2 n.kind.no-leaf own
-    (rw c.ahead.ensures at c.note_own.ensures)
-    (c.check_operands.ensures l)
+    (rw (c.ahead.ensures, c.of-kind.ensures) at c.note_own.ensures)
+    (rw c.of-kind.ensures at (c.check_operands.ensures l))
 
 pub check_one-returns-then-sheet-at : goal.check_one-returns-then-sheet-at
 check_one-returns-then-sheet-at t c = λ l.
@@ -91,60 +92,25 @@ check_one-returns-then-sheet-at t c = λ l.
     own-stops l.inputs l.wires a.sheet.now.now a.level a.asked a.at a.count (ap Err c.at.ensures)
     (own-missing l.inputs l.wires a.sheet.now.now a.asked a.at a.count a.level c.if-sheet-at.true)
 
-pub check_one-returns-then-kind-ge-COUNT : goal.check_one-returns-then-kind-ge-COUNT
-check_one-returns-then-kind-ge-COUNT t c = λ l.
-    let a = c.args in
-    own-stops l.inputs l.wires a.sheet.now.now a.level a.asked a.at a.count (ap Err c.at-then-kind-ge-COUNT.ensures)
-    (own-unknown l.inputs l.wires a.sheet.now.now a.asked a.at a.count a.level c.if-sheet-at.false c.if-kind-ge-COUNT.true)
-
-pub check_one-returns-then-level-eq0 : goal.check_one-returns-then-level-eq0
-check_one-returns-then-level-eq0 t c = λ l.
-    let a = c.args in
-    own-stops l.inputs l.wires a.sheet.now.now a.level a.asked a.at a.count (ap Err c.at-then-level-eq0.ensures)
-    (own-deep l.inputs l.wires a.sheet.now.now a.asked a.at a.count a.level c.if-sheet-at.false c.if-kind-ge-COUNT.false
-    c.if-level-eq0.true)
-
-pub check_one-returns-then-kind-eq-LAST : goal.check_one-returns-then-kind-eq-LAST
-check_one-returns-then-kind-eq-LAST t c = λ l.
-    let a = c.args in
-    last_checks l.inputs l.wires a.sheet.now.now a.level a.asked a.at a.count
-    (omega (arith, c.if-level-eq0.false)) c.if-sheet-at.false c.if-kind-eq-LAST.true (c.check_last.ensures l)
-
--- a kind that goes on behind the tests of kinds from 18 on is one of the table
-pub check_one-returns-then-level-eq0-2 : goal.check_one-returns-then-level-eq0-2
-check_one-returns-then-level-eq0-2 t c = λ l.
-    let a = c.args in
-    let known : get_or a.sheet.now.now a.at 0 < kind_count = elim c.if-kind-ge-LAST.branch [
-      | check_one-then-kind-ge-LAST+else-kind-ge-COUNT+else-level-eq0+else-kind-eq-LAST w ↦ w.if-kind-ge-COUNT.false
-      | check_one-else-kind-ge-LAST w ↦ omega arith
-    ] in
-    own-stops l.inputs l.wires a.sheet.now.now a.level a.asked a.at a.count (ap Err c.at-then-level-eq0-2.ensures)
-    (own-deep l.inputs l.wires a.sheet.now.now a.asked a.at a.count a.level c.if-sheet-at.false known c.if-level-eq0-2.true)
-
-pub check_one-returns-then-kind-lt4 : goal.check_one-returns-then-kind-lt4
-check_one-returns-then-kind-lt4 t c = λ l.
-    let a = c.args in
-    bare_checks l.inputs l.wires a.sheet.now.now a.level a.asked a.at a.count
-    (omega (arith, c.if-level-eq0-2.false)) c.if-sheet-at.false (leaf-bare _ c.if-kind-lt4.true) (c.check_leaf.ensures l)
-
 pub check_operand-returns : goal.check_operand-returns
 check_operand-returns t c = λ l.
     let a = c.args in
+    let few : get_or a.sheet.now.now a.at 0 < 4 = search rules in
     bare_checks l.inputs l.wires a.sheet.now.now a.level a.asked a.at a.count
-    (omega (arith, c.if-level-eq0.false)) c.if-sheet-at.false (leaf-bare _ c.if-sheet-at-ge4.false) (c.check_leaf.ensures l)
+    (omega (arith, c.if-level-eq0.false)) c.if-sheet-at.false (leaf-bare _ few) (c.check_leaf.ensures l)
 
 pub check_operands-returns-in_err-one : goal.check_operands-returns-in_err-one
 check_operands-returns-in_err-one t c = λ l.
     let a = c.args in
     let o = c.loop-i in
     let p = err_from_is_err_and c.from_residual.result c.from_residual.ensures.1 in
-    let here : o.i < count_of a.kind = omega (arith, c.operands-operands.ensures, c.loop-i-test.true) in
-    let is : c.operand_type-asked_here.result ≡ get_or (operands_of a.kind a.asked) o.i 0
+    let here : o.i < count_of (byte_of a.kind) = omega (arith, c.operands-operands.ensures, c.loop-i-test.true) in
+    let is : c.operand_type-asked_here.result ≡ get_or (operands_of (byte_of a.kind) a.asked) o.i 0
     = c.operand_type-asked_here.ensures ∙ c.operand_types-types.ensures o.i here in
-    let more : o.i < length (operands_of a.kind a.asked) = omega (arith, operands-counted a.asked a.kind c.requires.1) in
+    let more : o.i < length (operands_of (byte_of a.kind) a.asked) = omega (arith, operands-counted a.asked (byte_of a.kind) (byte_few a.kind)) in
     let read = read_expression l.inputs l.wires a.sheet.now.now a.level in
     let one = rw is at (c.in_err-one.ensures l) in
-    rw (p.1, p.2) (refused_checks (each-refused read (operands_of a.kind a.asked) o.i o.next o.behind more (sym one.answers)
+    rw (p.1, p.2) (refused_checks (each-refused read (operands_of (byte_of a.kind) a.asked) o.i o.next o.behind more (sym one.answers)
     ∙ (o.invariant.3 l).0))
 
 pub check_operands-loop-i-preserved : goal.check_operands-loop-i-preserved
@@ -152,10 +118,10 @@ check_operands-loop-i-preserved t c =
     let a = c.args in
     let o = c.loop-i in
     let got-it : Ok c.in_ok-one.one ≡ got_at c.in_ok-one.one.next c.in_ok-one.one.count = refl in
-    let here : o.i < count_of a.kind = omega (arith, c.operands-operands.ensures, c.loop-i-test.true) in
-    let is : c.operand_type-asked_here.result ≡ get_or (operands_of a.kind a.asked) o.i 0
+    let here : o.i < count_of (byte_of a.kind) = omega (arith, c.operands-operands.ensures, c.loop-i-test.true) in
+    let is : c.operand_type-asked_here.result ≡ get_or (operands_of (byte_of a.kind) a.asked) o.i 0
     = c.operand_type-asked_here.ensures ∙ c.operand_types-types.ensures o.i here in
-    let more : o.i < length (operands_of a.kind a.asked) = omega (arith, operands-counted a.asked a.kind c.requires.1) in
+    let more : o.i < length (operands_of (byte_of a.kind) a.asked) = omega (arith, operands-counted a.asked (byte_of a.kind) (byte_few a.kind)) in
     let l = c.requires.0 in
     let read_one = extent l.inputs l.wires a.sheet.now.now a.level _ o.next o.behind (c.in_ok-one.ensures l) got-it in (
       omega arith,
@@ -164,10 +130,10 @@ check_operands-loop-i-preserved t c =
       λ l.
           let read = read_expression l.inputs l.wires a.sheet.now.now a.level in
           let one = rw is at (c.in_ok-one.ensures l) in (
-            each_good read (operands_of a.kind a.asked) o.i o.next o.behind more (sym one.answers ∙ got-it)
+            each_good read (operands_of (byte_of a.kind) a.asked) o.i o.next o.behind more (sym one.answers ∙ got-it)
                 ∙ (o.invariant.3 l).0,
             λ es n k r. rw c.either.ensures (left_step l.inputs l.wires a.sheet.now.now a.level
-                (ahead_in a.names.now) (operands_of a.kind a.asked) _ o.i o.next o.behind
+                (ahead_in a.names.now) (operands_of (byte_of a.kind) a.asked) _ o.i o.next o.behind
                 more o.invariant.2 got-it one ((o.invariant.3 l).1 es n k r)),
           ),
     )
@@ -177,13 +143,39 @@ unfolding read_each
 check_operands-returns t c = λ l.
     let a = c.args in
     let o = c.loop-i in
-    let over : length (operands_of a.kind a.asked) ≤ o.i =
-    omega (arith, operands-counted a.asked a.kind c.requires.1, c.operands-operands.ensures, c.loop-i-test.false) in
+    let over : length (operands_of (byte_of a.kind) a.asked) ≤ o.i =
+    omega (arith, operands-counted a.asked (byte_of a.kind) (byte_few a.kind), c.operands-operands.ensures, c.loop-i-test.false) in
     record {
-      answers = rw (drop_of_length-le (operands_of a.kind a.asked) over) at (o.invariant.3 l).0;
+      answers = rw (drop_of_length-le (operands_of (byte_of a.kind) a.asked) over) at (o.invariant.3 l).0;
       cells = λ es n k e. (left-none l.inputs l.wires a.sheet.now.now a.level (ahead_in a.names.now)
-          (operands_of a.kind a.asked) o.i o.next o.behind over ((o.invariant.3 l).1 es n k e)).0;
+          (operands_of (byte_of a.kind) a.asked) o.i o.next o.behind over ((o.invariant.3 l).1 es n k e)).0;
       reads = λ es n k e. rw c.read_operands-counted.ensures at (left-none l.inputs l.wires a.sheet.now.now
-          a.level (ahead_in a.names.now) (operands_of a.kind a.asked) o.i o.next o.behind over
+          a.level (ahead_in a.names.now) (operands_of (byte_of a.kind) a.asked) o.i o.next o.behind over
           ((o.invariant.3 l).1 es n k e)).1;
     }
+
+pub check_one-returns-in_default : goal.check_one-returns-in_default
+check_one-returns-in_default t c = λ l.
+    let a = c.args in
+    own-stops l.inputs l.wires a.sheet.now.now a.level a.asked a.at a.count (ap Err c.at-in_default.ensures)
+    (own-unknown l.inputs l.wires a.sheet.now.now a.asked a.at a.count a.level c.if-sheet-at.false c.in_default.ensures.1)
+
+pub check_one-returns-then-level-eq0 : goal.check_one-returns-then-level-eq0
+check_one-returns-then-level-eq0 t c = λ l.
+    let a = c.args in
+    let known : get_or a.sheet.now.now a.at 0 < kind_count = rw (← c.in-Ok.ensures) (byte_few c.in-Ok.kind) in
+    own-stops l.inputs l.wires a.sheet.now.now a.level a.asked a.at a.count (ap Err c.at-then-level-eq0.ensures)
+    (own-deep l.inputs l.wires a.sheet.now.now a.asked a.at a.count a.level c.if-sheet-at.false known c.if-level-eq0.true)
+
+pub check_one-returns-then-is_leaf : goal.check_one-returns-then-is_leaf
+check_one-returns-then-is_leaf t c = λ l.
+    let a = c.args in
+    let few : get_or a.sheet.now.now a.at 0 < 4 = rw (← c.in-Ok.ensures) (ltb-true _ _ (sym c.if-is_leaf.ensures)) in
+    bare_checks l.inputs l.wires a.sheet.now.now a.level a.asked a.at a.count
+    (omega (arith, c.if-level-eq0.false)) c.if-sheet-at.false (leaf-bare _ few) (c.check_leaf.ensures l)
+
+pub check_one-returns-in-Last : goal.check_one-returns-in-Last
+check_one-returns-in-Last t c = λ l.
+    let a = c.args in
+    last_checks l.inputs l.wires a.sheet.now.now a.level a.asked a.at a.count
+    (omega (arith, c.if-level-eq0.false)) c.if-sheet-at.false (sym c.in-Ok.ensures ∙ ap byte_of c.in-Last.is) (c.check_last.ensures l)

@@ -9,6 +9,7 @@ use Rattle.sheet.specs.Readings.{got, erased, read_each, read_expression}
 use Rattle.sheet.specs.Sheets.{forms_of}
 use Rattle.sheet_names.specs.Naming.{ahead_in}
 use Rattle.sheet_own.specs.Own.{Lookup}
+use Rattle.sheet.specs.KindBytes.{byte_of}
 use Rattle.sheet_expressions.proofs.Noting.{Left}
 use Rattle.sheet_expressions.proofs.+checking.Given as goal
 
@@ -28,11 +29,11 @@ abbrev pub invariant-check_operands-loop-i : goal.invariant-check_operands-loop-
 invariant-check_operands-loop-i l =
     (l.i ≤ l.operands) × (l.behind ≤ 64) × (ahead_in l.names ≤ l.behind)
     × ((m : Lookup l.names)
-    → (erased (read_each (read_expression m.inputs m.wires l.sheet.now l.level) (drop l.i (operands_of l.kind l.asked)) l.next l.behind)
-    ≡ erased (read_each (read_expression m.inputs m.wires l.sheet.now l.level) (operands_of l.kind l.asked) l.at l.count))
+    → (erased (read_each (read_expression m.inputs m.wires l.sheet.now l.level) (drop l.i (operands_of (byte_of l.fn.kind) l.asked)) l.next l.behind)
+    ≡ erased (read_each (read_expression m.inputs m.wires l.sheet.now l.level) (operands_of (byte_of l.fn.kind) l.asked) l.at l.count))
     × ((es : List Expression) (n k : ℕ)
-    → read_each (read_expression m.inputs m.wires l.sheet.now l.level) (operands_of l.kind l.asked) l.at l.count ≡ got es n k
-    → Left l.sheet.now (read_expression m.inputs m.wires l.sheet.now l.level) (ahead_in l.names) (drop l.i (operands_of l.kind l.asked))
+    → read_each (read_expression m.inputs m.wires l.sheet.now l.level) (operands_of (byte_of l.fn.kind) l.asked) l.at l.count ≡ got es n k
+    → Left l.sheet.now (read_expression m.inputs m.wires l.sheet.now l.level) (ahead_in l.names) (drop l.i (operands_of (byte_of l.fn.kind) l.asked))
     l.next l.behind n k (forms_of es) (l.count - ahead_in l.names) l.initial.cells l.cells (l.counted - l.i)
     (all_read (take l.counted es)) l.initial.reads l.reads))
 

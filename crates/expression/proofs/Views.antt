@@ -4,6 +4,7 @@ use Prim.Native.Nat.{ℕ, zero, suc, ◌+◌, ◌-◌, ◌≤◌, ◌<◌}
 use mathlib.Core.Path.{◌≡◌, refl, ap, ◌∙◌}
 use mathlib.Core.Bool.{Bool, true, false}
 use mathlib.Core.List.{List, [], ◌∷◌, ◌++◌}
+use Rattle.std.proofs.Common.{◌⊎◌, inl, inr}
 use native.Mathlib.Numerals.{sub-one}
 use native.Mathlib.Omega.{arith}
 use lib.ListN.{length, get_or, take}
@@ -13,7 +14,10 @@ use borrow.Author.Tests.{ltb-true, ltb-false, not-false}
 use Rattle.sheet.specs.Data.{type_of_byte, plain_byte, is_kept, datum_of}
 use Rattle.sheet.specs.Expressions.{Expression, constant, wire, input, last, unary, binary, conditional, pre, fby, present_of, reset_of, machine_of}
 use Rattle.sheet.specs.Expressions.{CellForm, state_cell, cell_forms, cell_count}
-use Rattle.sheet.specs.Kinds.{body_of, cells_of, count_of, own_forms, operands_of, meaning_of, kind_count}
+use Rattle.sheet.specs.Kinds.{body_of, cells_of, count_of, own_forms, operands_of, meaning_of}
+use Rattle.sheet.specs.KindBytes.{byte_of}
+use Rattle.sheet.specs.declared.kinds.Kind.{Kind}
+use Rattle.sheet.specs.declared.kinds.Kind.TheVariants.{BooleanConstant, NumberConstant, Wire, Input}
 use Rattle.sheet.specs.Readings.{got, read_each, read_expression, body_at, Whole}
 use Rattle.sheet.specs.Sheets.{forms_of}
 use Rattle.sheet_walk.specs.Skips.{Readable}
@@ -40,12 +44,12 @@ pub first-stands : {memory : List ℕ} {cells : List Cell} {k : ℕ} {f : CellFo
     → CellStands memory k f (cell_at cells k)
 first-stands (more c s) = c
 
--- from 17 on a kind is 17, 18 or 19
-pub only-fby : {k : ℕ} → 17 ≤ k → k < 18 → k ≡ 17
-only-fby low high = omega arith
-
-pub only-machine : {k : ℕ} → 18 ≤ k → k < kind_count → (k ≡ 18 → ⊥) → k ≡ 19
-only-machine low high other = omega arith
+-- the kinds of leaves are the first four
+pub leaf-few : {kind : Kind} → (kind ≡ BooleanConstant) ⊎ (kind ≡ NumberConstant) ⊎ (kind ≡ Wire) ⊎ (kind ≡ Input) → byte_of kind < 4
+leaf-few (inl is) = rw is (omega arith)
+leaf-few (inr (inl is)) = rw is (omega arith)
+leaf-few (inr (inr (inl is))) = rw is (omega arith)
+leaf-few (inr (inr (inr is))) = rw is (omega arith)
 
 -- an expression that reads has a level for itself
 level-view : (inputs wires s : List ℕ) (level t at c : ℕ) {e : Expression} {n k : ℕ}

@@ -1,5 +1,5 @@
 -- What each function returns and leaves is what every placement asks for, from what its calls answer: one law to each return.
-use Prim.Native.Nat.{ℕ, ◌+◌, ◌-◌, ◌*◌, ◌≤◌, ◌<◌}
+use Prim.Native.Nat.{ℕ, ◌+◌, ◌*◌, ◌≤◌, ◌<◌}
 use mathlib.Core.Path.{◌≡◌, refl, sym, ap, subst, ◌∙◌}
 use mathlib.Core.Bool.{Bool, true, false, ◌||◌, cond}
 use mathlib.Core.List.{List, [], ◌∷◌, ◌++◌, append_assoc}
@@ -34,7 +34,7 @@ use Rattle.expression.proofs.Values.{operand_value, Ended, by_value, by-walk}
 use Rattle.expression.proofs.Giving.{unary-gives, binary-gives, conditional-gives, present-gives-first, present-gives-second, reset-gives}
 use Rattle.expression.proofs.Giving.{fby-gives-left, fby-gives-cell, pre-gives, leaf-gives, last-gives}
 use Rattle.storing.specs.Advances.{Ready, Advances}
-use Rattle.storing.proofs.Steps.{Steps, Stays, operand_stored, operand_resting, put_first, one-ready, one-step, two_ready, two-step, two-step_2}
+use Rattle.storing.proofs.Steps.{Steps, Stays, operand_stored, operand_resting, put_first, one-step, two-step, two-step_2}
 use Rattle.storing.proofs.Steps.{three-step, three-step_2, three-step_3, three-rest_2, three-rest_3, rest-step_3}
 
 module _ {sheet memory words : List ℕ} {level asked : ℕ} {here : Place}
@@ -154,13 +154,6 @@ module _ {sheet memory words : List ℕ} {level asked : ℕ} {here : Place}
       rw e (finish (last-gives whole fresh of) refl (ap (λ x. stored whole.now fresh x cell) (last_view whole of).leaf.tree))
 
   module _ (types : List ℕ) (e : take (count_of kind) types ≡ operands_of kind asked) where
-    pub operation_ready : 4 ≤ kind → kind < 12 → Ready sheet memory words (level - 1) (get_or types 0 0) first_place
-    operation_ready low high = by (ltb kind 6) refl
-      where
-        by : (b : Bool) → ltb kind 6 ≡ b → Ready sheet memory words (level - 1) (get_or types 0 0) first_place
-        by true t = one-ready p (unary-view whole types e low (ltb-true _ _ t))
-        by false t = two_ready p (binary-view whole types e (ltb-false _ _ t) high)
-
     pub unary_advances : 4 ≤ kind → kind < 6 → {a : Valued} {m : List ℕ} → Steps p memory (get_or types 0 0) first_place fresh a m
         → {r : ℕ} → r ≡ unary_word (unary_of kind) a.word
         → Advances p fresh (record { word = r; end = a.end }) m

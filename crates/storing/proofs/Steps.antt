@@ -28,11 +28,11 @@ at-place r e f = rw (← e, ← f) refl
 module _ {sheet memory words : List ℕ} {level asked : ℕ} {here : Place}
     (p : Ready sheet memory words level asked here) where
   -- the measure of a call falls from an expression to its operands, which are advanced at all or by their kind
-  pub deeper : (step : ℕ) {t : ℕ} → 5 * level + step ≡ t → 5 * (level - 1) + 4 < t
-  deeper step e = omega (arith, e, (opened p.place).level-left)
+  pub deeper : {t : ℕ} → 3 * level ≡ t → 3 * (level - 1) + 2 < t
+  deeper e = omega (arith, e, (opened p.place).level-left)
 
-  pub deeper_by_kind : (step : ℕ) {t : ℕ} → 5 * level + step ≡ t → 5 * (level - 1) + 3 < t
-  deeper_by_kind step e = omega (arith, deeper step e)
+  pub deeper_by_kind : {t : ℕ} → 3 * level ≡ t → 3 * (level - 1) + 1 < t
+  deeper_by_kind e = omega (arith, deeper e)
 
   -- what a call answers at a place, in a memory m that it leaves as m'
   abbrev pub Steps : (m : List ℕ) (t : ℕ) → Place → Bool → Valued → (m' : List ℕ) → Type 0

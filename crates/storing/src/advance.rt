@@ -6,7 +6,8 @@ ghost use Rattle.storing.specs.Advances.{ReadyUnder, Advances, kind_under};
 
 use crate::rest;
 use leaves::{Valued, cells, lasts, leaf};
-use sheet::{Cell, Datum, data, kinds, memory};
+use sheet::kinds::Kind;
+use sheet::{Cell, Datum, data, memory};
 use sheet_walk::Place;
 
 // What stays as it is while cells are stored: the sheet, and the words of the finished wires, of the inputs and of the kept wires' cells. It is
@@ -31,15 +32,15 @@ pub fn advance_expression(
     requires { ReadyUnder fixed.now memory.old level asked here }
     ensures { (p : ReadyUnder fixed.now memory.old level asked here) → Advances p fresh result memory.new }
 {
-    if fixed.sheet[here.at] < 4 {
+    if Kind::of(fixed.sheet[here.at]).is_leaf() {
         return leaf::known_leaf(fixed.sheet, fixed.words, here);
     }
     advance_by_kind(fixed, memory, level, asked, here, fresh)
 }
 
-// An operation on one or two operands, kinds 4 to 11, which advance in turn.
+// An operation on one operand, kinds 4 and 5.
 #[cycle(advancing)]
-fn advance_operation(
+fn advance_unary(
     fixed: &Fixed,
     memory: &mut [u8],
     level: usize,
@@ -48,24 +49,46 @@ fn advance_operation(
     fresh: bool,
 ) -> Valued
     requires ready { ReadyUnder fixed.now memory.old level asked here }
-    requires bound { (4 ≤ kind_under fixed.now here) × (kind_under fixed.now here < 12) }
+    requires bound { (4 ≤ kind_under fixed.now here) × (kind_under fixed.now here < 6) }
     ensures { (p : ReadyUnder fixed.now memory.old level asked here) → Advances p fresh result memory.new }
 {
-    let kind = fixed.sheet[here.at];
-    let operand = kinds::operation_type(kind);
+    let kind = Kind::of(fixed.sheet[here.at]);
+    let type_asked = kind.operation_type();
     let below = level - 1;
     let first = Place {
         at: here.at + 1,
         ..here
     };
-    let left = advance_expression(fixed, memory, below, operand, first, fresh);
-    if kind < 6 {
-        return Valued {
-            word: operations::unary(kind, left.word),
-            end: left.end,
-        };
+    let operand = advance_expression(fixed, memory, below, type_asked, first, fresh);
+    Valued {
+        word: operations::unary(kind, operand.word),
+        end: operand.end,
     }
-    let right = advance_expression(fixed, memory, below, operand, left.end, fresh);
+}
+
+// An operation on two operands, kinds 6 to 11, which advance in turn.
+#[cycle(advancing)]
+fn advance_binary(
+    fixed: &Fixed,
+    memory: &mut [u8],
+    level: usize,
+    asked: u8,
+    here: Place,
+    fresh: bool,
+) -> Valued
+    requires ready { ReadyUnder fixed.now memory.old level asked here }
+    requires bound { (6 ≤ kind_under fixed.now here) × (kind_under fixed.now here < 12) }
+    ensures { (p : ReadyUnder fixed.now memory.old level asked here) → Advances p fresh result memory.new }
+{
+    let kind = Kind::of(fixed.sheet[here.at]);
+    let type_asked = kind.operation_type();
+    let below = level - 1;
+    let first = Place {
+        at: here.at + 1,
+        ..here
+    };
+    let left = advance_expression(fixed, memory, below, type_asked, first, fresh);
+    let right = advance_expression(fixed, memory, below, type_asked, left.end, fresh);
     Valued {
         word: operations::binary(kind, left.word, right.word),
         end: right.end,
@@ -171,7 +194,7 @@ fn advance_pre(
 {
     let below = level - 1;
     let first = Place {
-        at: here.at + 1 + kinds::body(fixed.sheet[here.at]),
+        at: here.at + 1 + Kind::of(fixed.sheet[here.at]).body(),
         cell: here.cell + 1,
     };
     let word = cells::pre_word(fixed.sheet, memory, here.at, here.cell, fresh);
@@ -224,10 +247,9 @@ fn advance_machine(
     }
 }
 
-// An fby, kind 17: its cell is read, then both its operands advance, and the cell gets the right one's value. Kind 18, which owns no cell, and a
-// machine are told from it here, as in `value_held`.
+// An fby, kind 17: its cell is read, then both its operands advance, and the cell gets the right one's value.
 #[cycle(advancing)]
-fn advance_held(
+fn advance_fby(
     fixed: &Fixed,
     memory: &mut [u8],
     level: usize,
@@ -236,15 +258,9 @@ fn advance_held(
     fresh: bool,
 ) -> Valued
     requires ready { ReadyUnder fixed.now memory.old level asked here }
-    requires bound { 17 ≤ kind_under fixed.now here }
+    requires at_value { kind_under fixed.now here ≡ 17 }
     ensures { (p : ReadyUnder fixed.now memory.old level asked here) → Advances p fresh result memory.new }
 {
-    if kinds::LAST <= fixed.sheet[here.at] {
-        if fixed.sheet[here.at] == kinds::LAST {
-            return lasts::value_last(fixed.sheet, fixed.words, here);
-        }
-        return advance_machine(fixed, memory, level, asked, here, fresh);
-    }
     let below = level - 1;
     let first = Place {
         at: here.at + 1,
@@ -278,13 +294,18 @@ fn advance_by_kind(
     requires { ReadyUnder fixed.now memory.old level asked here }
     ensures { (p : ReadyUnder fixed.now memory.old level asked here) → Advances p fresh result memory.new }
 {
-    match fixed.sheet[here.at] {
-        0..=3 => leaf::known_leaf(fixed.sheet, fixed.words, here),
-        4..=11 => advance_operation(fixed, memory, level, asked, here, fresh),
-        12 => advance_conditional(fixed, memory, level, asked, here, fresh),
-        13 => advance_present(fixed, memory, level, asked, here, fresh),
-        14 => advance_reset(fixed, memory, level, asked, here, fresh),
-        15 | 16 => advance_pre(fixed, memory, level, asked, here, fresh),
-        _ => advance_held(fixed, memory, level, asked, here, fresh),
+    match Kind::of(fixed.sheet[here.at]) {
+        Kind::BooleanConstant | Kind::NumberConstant | Kind::Wire | Kind::Input => {
+            leaf::known_leaf(fixed.sheet, fixed.words, here)
+        }
+        Kind::Conditional => advance_conditional(fixed, memory, level, asked, here, fresh),
+        Kind::Present => advance_present(fixed, memory, level, asked, here, fresh),
+        Kind::Reset => advance_reset(fixed, memory, level, asked, here, fresh),
+        Kind::BooleanPre | Kind::NumberPre => advance_pre(fixed, memory, level, asked, here, fresh),
+        Kind::Fby => advance_fby(fixed, memory, level, asked, here, fresh),
+        Kind::Last => lasts::value_last(fixed.sheet, fixed.words, here),
+        Kind::Machine => advance_machine(fixed, memory, level, asked, here, fresh),
+        Kind::Not | Kind::Negate => advance_unary(fixed, memory, level, asked, here, fresh),
+        _ => advance_binary(fixed, memory, level, asked, here, fresh),
     }
 }

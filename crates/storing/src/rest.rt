@@ -3,7 +3,7 @@
 ghost use Rattle.std.specs.Prelude.{◌≡◌, true, length};
 ghost use Rattle.storing.specs.Advances.{Room, Restarts, Arm, Rests, RestsIf};
 
-use sheet::kinds;
+use sheet::kinds::Kind;
 use sheet_walk::Place;
 
 // The walk past the expression that stands here, which puts each cell that it meets as it is at the start.
@@ -15,11 +15,11 @@ fn restart(sheet: &[u8], here: Place, memory: &mut [u8]) -> Place
     let mut count = here.cell;
     let mut pending = 1;
     while 0 < pending {
-        let kind = sheet[next];
+        let kind = Kind::of(sheet[next]);
         sheet_cells::put_own(sheet, next, memory, count);
-        pending = pending - 1 + kinds::operands(kind);
-        count += kinds::cells(kind);
-        next += 1 + kinds::body(kind);
+        pending = pending - 1 + kind.operands();
+        count += kind.cells();
+        next += 1 + kind.body();
     }
     Place {
         at: next,

@@ -1,12 +1,10 @@
 -- The functions that value an expression meet their contracts. The level falls from an expression to its operands; an expression
 -- goes by its kind at the same level, if it is no leaf.
-use Rattle.std.proofs.Common.{◌≡◌, ◌<◌, ◌⊎◌, inl, inr, sym, ap, ◌∙◌}
-use Rattle.sheet.specs.declared.kinds.Kind.{Kind}
-use Rattle.sheet.specs.declared.kinds.Kind.TheVariants.{BooleanConstant, NumberConstant, Wire, Input}
+use Rattle.std.proofs.Common.{sym, ap, ◌∙◌}
 use Rattle.sheet.specs.KindBytes.{byte_of}
 use native.Mathlib.Omega.{arith}
 use borrow.Author.Tests.{ltb-true}
-use Rattle.expression.proofs.Views.{opened, readable, leaf-of, last_of, own-cell, state-cell}
+use Rattle.expression.proofs.Views.{opened, readable, leaf-few, leaf-of, last_of, own-cell, state-cell}
 use Rattle.expression.proofs.Views.{own-types, operation_first, binary-view, conditional-view, present-view, reset-view, fby-view, machine-view}
 use Rattle.expression.proofs.Values.{after-value, after-walk}
 use Rattle.expression.proofs.Machines.{asked_condition, condition_unknown, other_condition, first_body_lem, running_body}
@@ -19,12 +17,6 @@ use Rattle.expression.proofs.Answers.{present-second, present-third, present-unc
 use Rattle.expression.proofs.Answers.{reset-second, reset-unknown, reset-answer}
 use Rattle.expression.proofs.Answers.{fby-unknown, fby-answer-left, fby-answer-cell}
 use Rattle.expression.proofs.value.+valuing.Goals as goal
-
-leaf-few : {kind : Kind} → (kind ≡ BooleanConstant) ⊎ (kind ≡ NumberConstant) ⊎ (kind ≡ Wire) ⊎ (kind ≡ Input) → byte_of kind < 4
-leaf-few (inl is) = rw is (omega arith)
-leaf-few (inr (inl is)) = rw is (omega arith)
-leaf-few (inr (inr (inl is))) = rw is (omega arith)
-leaf-few (inr (inr (inr is))) = rw is (omega arith)
 
 pub value_conditional-overflow_sub-below : goal.value_conditional-overflow_sub-below
 value_conditional-overflow_sub-below t c = (opened c.requires.placed.1).level-left

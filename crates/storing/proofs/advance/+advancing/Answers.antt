@@ -1,11 +1,15 @@
 -- The functions that advance an expression meet their contracts. The level falls from an expression to its operands; an expression
 -- goes by its kind at the same level, if it is no leaf.
+use mathlib.Core.Path.{sym, ap, ◌∙◌}
 use native.Mathlib.Omega.{arith}
-use Rattle.expression.proofs.Views.{opened, whole, leaf-of, last_of, own-cell, state-cell, only-fby, only-machine}
-use Rattle.expression.proofs.Views.{binary-view, conditional-view, present-view, reset-view, pre-view, fby-view}
+use Rattle.expression.proofs.Views.{opened, whole, leaf-of, last_of, own-cell, state-cell, leaf-few}
+use Rattle.expression.proofs.Views.{unary-view, binary-view, conditional-view, present-view, reset-view, pre-view, fby-view}
+use borrow.Author.Tests.{ltb-true}
+use Rattle.sheet.specs.Kinds.{body_of}
+use Rattle.sheet.specs.KindBytes.{byte_of}
 use Rattle.storing.proofs.Steps.{deeper, deeper_by_kind, one-ready, two_ready, two-ready_2, three-ready, three-ready_2, three-ready_3}
 use Rattle.storing.proofs.Steps.{three-arm_2, three-arm_3, rest-ready_3}
-use Rattle.storing.proofs.Advancing.{leaf_advances, last_advances, operation_ready, unary_advances, binary_advances, conditional_advances}
+use Rattle.storing.proofs.Advancing.{leaf_advances, last_advances, unary_advances, binary_advances, conditional_advances}
 use Rattle.storing.proofs.Advancing.{present_advances_first, present_advances_second, reset_advances, pre_advances, fby_advances}
 use Rattle.storing.proofs.Machines.{first_condition_lem, condition_ready, second_condition_lem, first_body_lem, body-ready, second-body}
 use Rattle.storing.proofs.Machines.{machine_advances}
@@ -18,19 +22,19 @@ pub advance_conditional-advance_expression-condition-requires : goal.advance_con
 advance_conditional-advance_expression-condition-requires t c =
     let p = c.requires.ready in
     let w = conditional-view p.place c.requires.at_value in
-    (deeper p 2 c.decreases, three-ready p w)
+    (deeper p c.decreases, three-ready p w)
 
 pub advance_conditional-advance_expression-then-requires : goal.advance_conditional-advance_expression-then-requires
 advance_conditional-advance_expression-then-requires t c =
     let p = c.requires.ready in
     let w = conditional-view p.place c.requires.at_value in
-    (deeper p 2 c.decreases, three-ready_2 p w c.advance_expression-condition.ensures)
+    (deeper p c.decreases, three-ready_2 p w c.advance_expression-condition.ensures)
 
 pub advance_conditional-advance_expression-otherwise-requires : goal.advance_conditional-advance_expression-otherwise-requires
 advance_conditional-advance_expression-otherwise-requires t c =
     let p = c.requires.ready in
     let w = conditional-view p.place c.requires.at_value in (
-      deeper p 2 c.decreases,
+      deeper p c.decreases,
       three-ready_3 p w
           c.advance_expression-condition.ensures c.advance_expression-then.ensures,
     )
@@ -44,60 +48,43 @@ advance_conditional-returns t c =
 pub advance_by_kind-bounds-fixed-here : goal.advance_by_kind-bounds-fixed-here
 advance_by_kind-bounds-fixed-here t c = (opened c.requires.place).good.starts
 
-pub advance_by_kind-known_leaf-requires : goal.advance_by_kind-known_leaf-requires
-advance_by_kind-known_leaf-requires t c = leaf-of c.requires.place (omega arith)
+pub advance_fby-overflow_sub-below : goal.advance_fby-overflow_sub-below
+advance_fby-overflow_sub-below t c = (opened c.requires.ready.place).level-left
 
-pub advance_by_kind-returns-in-0-to-3 : goal.advance_by_kind-returns-in-0-to-3
-advance_by_kind-returns-in-0-to-3 t c = λ p. leaf_advances p c.args.fresh (omega arith) c.known_leaf.ensures
+pub advance_fby-overflow_add-first-2 : goal.advance_fby-overflow_add-first-2
+advance_fby-overflow_add-first-2 t c = omega (arith, (opened c.requires.ready.place).good.cells)
 
-pub advance_held-value_last-requires : goal.advance_held-value_last-requires
-advance_held-value_last-requires t c = last_of c.requires.ready.place c.if-fixed-here-eq-LAST.true
-
-pub advance_held-returns-then-fixed-here-eq-LAST : goal.advance_held-returns-then-fixed-here-eq-LAST
-advance_held-returns-then-fixed-here-eq-LAST t c = λ p. last_advances p c.args.fresh c.if-fixed-here-eq-LAST.true c.value_last.ensures
-
-pub advance_held-advance_machine-requires : goal.advance_held-advance_machine-requires
-advance_held-advance_machine-requires t c =
-    let is = only-machine c.if-fixed-here-ge-LAST.true (opened c.requires.ready.place).good.kind c.if-fixed-here-eq-LAST.false in
-    (omega (arith, c.decreases), (c.requires.ready, is))
-
-pub advance_held-overflow_sub-below : goal.advance_held-overflow_sub-below
-advance_held-overflow_sub-below t c = (opened c.requires.ready.place).level-left
-
-pub advance_held-overflow_add-first-2 : goal.advance_held-overflow_add-first-2
-advance_held-overflow_add-first-2 t c = omega (arith, (opened c.requires.ready.place).good.cells)
-
-pub advance_held-is_seen-seen-requires : goal.advance_held-is_seen-seen-requires
-advance_held-is_seen-seen-requires t c =
+pub advance_fby-is_seen-seen-requires : goal.advance_fby-is_seen-seen-requires
+advance_fby-is_seen-seen-requires t c =
     let p = c.requires.ready.place in
-    (own-cell p (omega (arith, c.requires.bound)) (omega (arith, c.if-fixed-here-ge-LAST.false))).stands.fits
+    (own-cell p (omega (arith, c.requires.at_value)) (omega (arith, c.requires.at_value))).stands.fits
 
-pub advance_held-word_in-held-requires : goal.advance_held-word_in-held-requires
-advance_held-word_in-held-requires t c =
+pub advance_fby-word_in-held-requires : goal.advance_fby-word_in-held-requires
+advance_fby-word_in-held-requires t c =
     let p = c.requires.ready.place in
-    (own-cell p (omega (arith, c.requires.bound)) (omega (arith, c.if-fixed-here-ge-LAST.false))).stands.fits
+    (own-cell p (omega (arith, c.requires.at_value)) (omega (arith, c.requires.at_value))).stands.fits
 
-pub advance_held-advance_expression-left-requires : goal.advance_held-advance_expression-left-requires
-advance_held-advance_expression-left-requires t c =
+pub advance_fby-advance_expression-left-requires : goal.advance_fby-advance_expression-left-requires
+advance_fby-advance_expression-left-requires t c =
     let p = c.requires.ready in
-    let w = fby-view p.place (only-fby c.requires.bound c.if-fixed-here-ge-LAST.false) in
-    (deeper p 2 c.decreases, two_ready p w)
+    let w = fby-view p.place c.requires.at_value in
+    (deeper p c.decreases, two_ready p w)
 
-pub advance_held-advance_expression-right-requires : goal.advance_held-advance_expression-right-requires
-advance_held-advance_expression-right-requires t c =
+pub advance_fby-advance_expression-right-requires : goal.advance_fby-advance_expression-right-requires
+advance_fby-advance_expression-right-requires t c =
     let p = c.requires.ready in
-    let w = fby-view p.place (only-fby c.requires.bound c.if-fixed-here-ge-LAST.false) in
-    (deeper p 2 c.decreases, two-ready_2 p w c.advance_expression-left.ensures)
+    let w = fby-view p.place c.requires.at_value in
+    (deeper p c.decreases, two-ready_2 p w c.advance_expression-left.ensures)
 
-pub advance_held-put_cell-requires : goal.advance_held-put_cell-requires
-advance_held-put_cell-requires t c =
+pub advance_fby-put_cell-requires : goal.advance_fby-put_cell-requires
+advance_fby-put_cell-requires t c =
     let p = c.requires.ready.place in
-    let own = own-cell p (omega (arith, c.requires.bound)) (omega (arith, c.if-fixed-here-ge-LAST.false)) in
+    let own = own-cell p (omega (arith, c.requires.at_value)) (omega (arith, c.requires.at_value)) in
     omega (arith, own.stands.fits, c.advance_expression-right.auto.memory, c.advance_expression-left.auto.memory)
 
-pub advance_held-returns : goal.advance_held-returns
-advance_held-returns t c =
-    λ p. fby_advances p c.args.fresh (only-fby c.requires.bound c.if-fixed-here-ge-LAST.false)
+pub advance_fby-returns : goal.advance_fby-returns
+advance_fby-returns t c =
+    λ p. fby_advances p c.args.fresh c.requires.at_value
     c.is_seen-seen.ensures c.word_in-held.ensures c.advance_expression-left.ensures c.advance_expression-right.ensures
     c.datum_of.ensures c.put_cell.ensures c.choose.ensures
 
@@ -116,7 +103,7 @@ advance_machine-rest_if-start-requires t c = λ holds. first_condition_lem c.req
 pub advance_machine-advance_expression-condition-requires : goal.advance_machine-advance_expression-condition-requires
 advance_machine-advance_expression-condition-requires t c =
     let p = c.requires.ready in (
-      deeper p 1 c.decreases,
+      deeper p c.decreases,
       condition_ready p c.args.fresh c.requires.at_value c.is_second_state-state.ensures c.rest_if-start.ensures,
     )
 
@@ -133,7 +120,7 @@ advance_machine-rest_if-run-requires t c =
 pub advance_machine-advance_by_kind-body-requires : goal.advance_machine-advance_by_kind-body-requires
 advance_machine-advance_by_kind-body-requires t c =
     let p = c.requires.ready in (
-      deeper_by_kind p 1 c.decreases,
+      deeper_by_kind p c.decreases,
       body-ready p c.args.fresh c.requires.at_value c.is_second_state-state.ensures
           c.rest_if-start.ensures c.advance_expression-condition.ensures c.rest_if-bodies.ensures c.rest_if-run.ensures,
     )
@@ -164,37 +151,11 @@ advance_machine-returns t c =
     c.advance_expression-condition.ensures c.rest_if-bodies.ensures c.rest_if-run.ensures c.advance_by_kind-body.ensures
     c.rest_if-end.ensures c.put_cell.ensures
 
-pub advance_operation-overflow_sub-below : goal.advance_operation-overflow_sub-below
-advance_operation-overflow_sub-below t c = (opened c.requires.ready.place).level-left
-
-pub advance_operation-advance_expression-left-requires : goal.advance_operation-advance_expression-left-requires
-advance_operation-advance_expression-left-requires t c =
-    let p = c.requires.ready in
-    let first = operation_ready p c.args.fresh _ (c.operation_type-operand.ensures _) c.requires.bound.0 c.requires.bound.1 in
-    (deeper p 2 c.decreases, first)
-
-pub advance_operation-returns-then-kind-lt6 : goal.advance_operation-returns-then-kind-lt6
-advance_operation-returns-then-kind-lt6 t c =
-    λ p. unary_advances p c.args.fresh _ (c.operation_type-operand.ensures _)
-    c.requires.bound.0 c.if-kind-lt6.true c.advance_expression-left.ensures c.unary.ensures
-
-pub advance_operation-advance_expression-right-requires : goal.advance_operation-advance_expression-right-requires
-advance_operation-advance_expression-right-requires t c =
-    let p = c.requires.ready in
-    let w = binary-view p.place _ (c.operation_type-operand.ensures _) c.if-kind-lt6.false c.requires.bound.1 in
-    (deeper p 2 c.decreases, two-ready_2 p w c.advance_expression-left.ensures)
-
-pub advance_operation-returns : goal.advance_operation-returns
-advance_operation-returns t c =
-    λ p. binary_advances p c.args.fresh _ (c.operation_type-operand.ensures _)
-    c.if-kind-lt6.false c.requires.bound.1 c.advance_expression-left.ensures c.advance_expression-right.ensures
-    c.binary.ensures
-
 pub advance_pre-overflow_sub-below : goal.advance_pre-overflow_sub-below
 advance_pre-overflow_sub-below t c = (opened c.requires.ready.place).level-left
 
 pub advance_pre-overflow_add-first-2 : goal.advance_pre-overflow_add-first-2
-advance_pre-overflow_add-first-2 t c = omega (arith, (opened c.requires.ready.place).good.ends, c.body.ensures)
+advance_pre-overflow_add-first-2 t c = omega (arith, (opened c.requires.ready.place).good.ends, c.body.ensures ∙ ap body_of c.of.ensures)
 
 pub advance_pre-overflow_add-first-3 : goal.advance_pre-overflow_add-first-3
 advance_pre-overflow_add-first-3 t c = omega (arith, (opened c.requires.ready.place).good.cells)
@@ -208,7 +169,7 @@ pub advance_pre-advance_expression-operand-requires : goal.advance_pre-advance_e
 advance_pre-advance_expression-operand-requires t c =
     let p = c.requires.ready in
     let w = pre-view p.place c.requires.bound.0 c.requires.bound.1 in
-    (deeper p 2 c.decreases, rw c.body.ensures (one-ready p w))
+    (deeper p c.decreases, rw (c.body.ensures ∙ ap body_of c.of.ensures) (one-ready p w))
 
 pub advance_pre-put_cell-requires : goal.advance_pre-put_cell-requires
 advance_pre-put_cell-requires t c =
@@ -218,7 +179,7 @@ advance_pre-put_cell-requires t c =
 pub advance_pre-returns : goal.advance_pre-returns
 advance_pre-returns t c =
     λ p. pre_advances p c.args.fresh c.requires.bound.0 c.requires.bound.1
-    c.body.ensures c.pre_word-word.ensures c.advance_expression-operand.ensures c.datum_of.ensures
+    (c.body.ensures ∙ ap body_of c.of.ensures) c.pre_word-word.ensures c.advance_expression-operand.ensures c.datum_of.ensures
     c.put_cell.ensures
 
 pub advance_present-overflow_sub-below : goal.advance_present-overflow_sub-below
@@ -228,13 +189,13 @@ pub advance_present-advance_expression-condition-requires : goal.advance_present
 advance_present-advance_expression-condition-requires t c =
     let p = c.requires.ready in
     let w = present-view p.place c.requires.at_value in
-    (deeper p 2 c.decreases, three-ready p w)
+    (deeper p c.decreases, three-ready p w)
 
 pub advance_present-advance_by_kind-yes-requires : goal.advance_present-advance_by_kind-yes-requires
 advance_present-advance_by_kind-yes-requires t c =
     let p = c.requires.ready in
     let w = present-view p.place c.requires.at_value in
-    (deeper_by_kind p 2 c.decreases, three-ready_2 p w c.advance_expression-condition.ensures)
+    (deeper_by_kind p c.decreases, three-ready_2 p w c.advance_expression-condition.ensures)
 
 pub advance_present-rest-requires : goal.advance_present-rest-requires
 advance_present-rest-requires t c =
@@ -255,7 +216,7 @@ pub advance_present-advance_by_kind-requires : goal.advance_present-advance_by_k
 advance_present-advance_by_kind-requires t c =
     let p = c.requires.ready in
     let w = present-view p.place c.requires.at_value in (
-      deeper_by_kind p 2 c.decreases,
+      deeper_by_kind p c.decreases,
       rest-ready_3 p w
           c.advance_expression-condition.ensures c.rest-no.ensures,
     )
@@ -272,13 +233,13 @@ pub advance_reset-advance_expression-condition-requires : goal.advance_reset-adv
 advance_reset-advance_expression-condition-requires t c =
     let p = c.requires.ready in
     let w = reset-view p.place c.requires.at_value in
-    (deeper p 2 c.decreases, two_ready p w)
+    (deeper p c.decreases, two_ready p w)
 
 pub advance_reset-advance_by_kind-requires : goal.advance_reset-advance_by_kind-requires
 advance_reset-advance_by_kind-requires t c =
     let p = c.requires.ready in
     let w = reset-view p.place c.requires.at_value in
-    (deeper_by_kind p 2 c.decreases, two-ready_2 p w c.advance_expression-condition.ensures)
+    (deeper_by_kind p c.decreases, two-ready_2 p w c.advance_expression-condition.ensures)
 
 pub advance_reset-returns : goal.advance_reset-returns
 advance_reset-returns t c = λ p. reset_advances p c.args.fresh c.requires.at_value c.advance_expression-condition.ensures c.advance_by_kind.ensures
@@ -286,8 +247,65 @@ advance_reset-returns t c = λ p. reset_advances p c.args.fresh c.requires.at_va
 pub advance_expression-bounds-fixed-here : goal.advance_expression-bounds-fixed-here
 advance_expression-bounds-fixed-here t c = (opened c.requires.place).good.starts
 
-pub advance_expression-known_leaf-requires : goal.advance_expression-known_leaf-requires
-advance_expression-known_leaf-requires t c = leaf-of c.requires.place c.if-fixed-here-lt4.true
+pub advance_unary-overflow_sub-below : goal.advance_unary-overflow_sub-below
+advance_unary-overflow_sub-below t c = (opened c.requires.ready.place).level-left
 
-pub advance_expression-returns-then-fixed-here-lt4 : goal.advance_expression-returns-then-fixed-here-lt4
-advance_expression-returns-then-fixed-here-lt4 t c = λ p. leaf_advances p c.args.fresh c.if-fixed-here-lt4.true c.known_leaf.ensures
+pub advance_unary-advance_expression-operand-requires : goal.advance_unary-advance_expression-operand-requires
+advance_unary-advance_expression-operand-requires t c =
+    let p = c.requires.ready in
+    let types = rw c.of-kind.ensures at (c.operation_type-type_asked.ensures c.args.asked) in
+    (deeper p c.decreases, one-ready p (unary-view p.place _ types c.requires.bound.0 c.requires.bound.1))
+
+pub advance_unary-returns : goal.advance_unary-returns
+advance_unary-returns t c =
+    λ p. unary_advances p c.args.fresh _ (rw c.of-kind.ensures at (c.operation_type-type_asked.ensures c.args.asked))
+    c.requires.bound.0 c.requires.bound.1 c.advance_expression-operand.ensures (rw c.of-kind.ensures at c.unary.ensures)
+
+pub advance_binary-overflow_sub-below : goal.advance_binary-overflow_sub-below
+advance_binary-overflow_sub-below t c = (opened c.requires.ready.place).level-left
+
+pub advance_binary-advance_expression-left-requires : goal.advance_binary-advance_expression-left-requires
+advance_binary-advance_expression-left-requires t c =
+    let p = c.requires.ready in
+    let types = rw c.of-kind.ensures at (c.operation_type-type_asked.ensures c.args.asked) in
+    (deeper p c.decreases, two_ready p (binary-view p.place _ types c.requires.bound.0 c.requires.bound.1))
+
+pub advance_binary-advance_expression-right-requires : goal.advance_binary-advance_expression-right-requires
+advance_binary-advance_expression-right-requires t c =
+    let p = c.requires.ready in
+    let types = rw c.of-kind.ensures at (c.operation_type-type_asked.ensures c.args.asked) in
+    let w = binary-view p.place _ types c.requires.bound.0 c.requires.bound.1 in
+    (deeper p c.decreases, two-ready_2 p w c.advance_expression-left.ensures)
+
+pub advance_binary-returns : goal.advance_binary-returns
+advance_binary-returns t c =
+    λ p. binary_advances p c.args.fresh _ (rw c.of-kind.ensures at (c.operation_type-type_asked.ensures c.args.asked))
+    c.requires.bound.0 c.requires.bound.1 c.advance_expression-left.ensures c.advance_expression-right.ensures
+    (rw c.of-kind.ensures at c.binary.ensures)
+
+pub advance_by_kind-of-requires : goal.advance_by_kind-of-requires
+advance_by_kind-of-requires t c = (opened c.requires.place).good.kind
+
+pub advance_by_kind-known_leaf-requires : goal.advance_by_kind-known_leaf-requires
+advance_by_kind-known_leaf-requires t c = leaf-of c.requires.place (rw (← c.of.ensures) (leaf-few c.in-BooleanConstant.is))
+
+pub advance_by_kind-returns-in-BooleanConstant : goal.advance_by_kind-returns-in-BooleanConstant
+advance_by_kind-returns-in-BooleanConstant t c =
+    λ p. leaf_advances p c.args.fresh (rw (← c.of.ensures) (leaf-few c.in-BooleanConstant.is)) c.known_leaf.ensures
+
+pub advance_by_kind-value_last-requires : goal.advance_by_kind-value_last-requires
+advance_by_kind-value_last-requires t c = last_of c.requires.place (sym c.of.ensures ∙ ap byte_of c.in-Last.is)
+
+pub advance_by_kind-returns-in-Last : goal.advance_by_kind-returns-in-Last
+advance_by_kind-returns-in-Last t c =
+    λ p. last_advances p c.args.fresh (sym c.of.ensures ∙ ap byte_of c.in-Last.is) c.value_last.ensures
+
+pub advance_expression-of-requires : goal.advance_expression-of-requires
+advance_expression-of-requires t c = (opened c.requires.place).good.kind
+
+pub advance_expression-known_leaf-requires : goal.advance_expression-known_leaf-requires
+advance_expression-known_leaf-requires t c = leaf-of c.requires.place (rw (← c.of.ensures) (ltb-true _ _ (sym c.is_leaf.ensures ∙ c.if-is_leaf.true)))
+
+pub advance_expression-returns-then-is_leaf : goal.advance_expression-returns-then-is_leaf
+advance_expression-returns-then-is_leaf t c =
+    λ p. leaf_advances p c.args.fresh (rw (← c.of.ensures) (ltb-true _ _ (sym c.is_leaf.ensures ∙ c.if-is_leaf.true))) c.known_leaf.ensures

@@ -1,6 +1,7 @@
 -- `restart` meets its contract. The loop's invariant: the cells that are still ahead, put from `count` on, make what the whole makes.
-use mathlib.Core.Path.{refl, ◌∙◌}
+use mathlib.Core.Path.{refl, ap, ◌∙◌}
 use native.Mathlib.Omega.{arith}
+use Rattle.sheet.specs.Kinds.{body_of, cells_of, count_of}
 use Rattle.storing.proofs.Anew.{step, begun, ended}
 use Rattle.storing.proofs.rest.restart.Goals as goal
 
@@ -18,32 +19,26 @@ put_own-requires c =
       at_in_bounds = omega (arith, s.room, c.requires.fits, c.loop-pending.invariant.0);
     }
 
-pub operands-requires : goal.operands-requires
-operands-requires c = (step c.loop-pending-test.true (c.loop-pending.invariant.1 c.requires)).met.kind
+pub of-kind-requires : goal.of-kind-requires
+of-kind-requires c = (step c.loop-pending-test.true (c.loop-pending.invariant.1 c.requires)).met.kind
 
 pub overflow_add-pending : goal.overflow_add-pending
-overflow_add-pending c = omega (arith, (step c.loop-pending-test.true (c.loop-pending.invariant.1 c.requires)).fits, c.operands.ensures)
-
-pub cells-count-requires : goal.cells-count-requires
-cells-count-requires c = (step c.loop-pending-test.true (c.loop-pending.invariant.1 c.requires)).met.kind
+overflow_add-pending c = omega (arith, (step c.loop-pending-test.true (c.loop-pending.invariant.1 c.requires)).fits, ap count_of c.of-kind.ensures)
 
 pub overflow_add-count : goal.overflow_add-count
-overflow_add-count c = omega (arith, (step c.loop-pending-test.true (c.loop-pending.invariant.1 c.requires)).cells, c.cells-count.ensures)
-
-pub body-requires : goal.body-requires
-body-requires c = (step c.loop-pending-test.true (c.loop-pending.invariant.1 c.requires)).met.kind
+overflow_add-count c = omega (arith, (step c.loop-pending-test.true (c.loop-pending.invariant.1 c.requires)).cells, ap cells_of c.of-kind.ensures)
 
 pub overflow_add-next-in-loop-pending : goal.overflow_add-next-in-loop-pending
-overflow_add-next-in-loop-pending c = omega (arith, (step c.loop-pending-test.true (c.loop-pending.invariant.1 c.requires)).met.ends, c.body.ensures)
+overflow_add-next-in-loop-pending c = omega (arith, (step c.loop-pending-test.true (c.loop-pending.invariant.1 c.requires)).met.ends, ap body_of c.of-kind.ensures)
 
 pub loop-pending-smaller : goal.loop-pending-smaller
-loop-pending-smaller c = omega (arith, (step c.loop-pending-test.true (c.loop-pending.invariant.1 c.requires)).met.ends, c.body.ensures)
+loop-pending-smaller c = omega (arith, (step c.loop-pending-test.true (c.loop-pending.invariant.1 c.requires)).met.ends, ap body_of c.of-kind.ensures)
 
 pub loop-pending-preserved : goal.loop-pending-preserved
 loop-pending-preserved c = (
   c.put_own.auto.memory ∙ c.loop-pending.invariant.0,
   λ p.
-      rw (c.body.ensures, c.cells-count.ensures, c.operands.ensures, c.put_own.ensures)
+      rw (c.body.ensures, c.cells-count.ensures, c.operands.ensures, c.of-kind.ensures, c.put_own.ensures)
       (step c.loop-pending-test.true (c.loop-pending.invariant.1 p)).rest,
 )
 

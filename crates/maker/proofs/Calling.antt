@@ -5,7 +5,8 @@ use mathlib.Core.List.{List}
 use native.Mathlib.Omega.{arith}
 use lib.ListN.{length, length-map}
 use Rattle.sheet.specs.Data.{wire_type}
-use Rattle.sheet.specs.Outcomes.{refusal, result}
+use Rattle.std.specs.Prelude.{Result}
+use Rattle.sheet.specs.Outcomes.{refusal, result, refused_at}
 use Rattle.sheet.specs.Sheets.{Sheet, before, sheet_of, check_of}
 use Rattle.sheet.specs.Typing.{WellTyped}
 use Rattle.sheet.proofs.Laws.Checked.{check_passed}
@@ -20,9 +21,8 @@ use Rattle.kernel.proofs.Laws.Reads.{reads-of-tree}
 use Rattle.maker.specs.Reaching.{reads_of}
 use Rattle.maker.specs.Making.{maker_outcome, maker_call}
 use Rattle.maker.specs.Placing.{Makes}
-use Rattle.maker.specs.declared.Made.{Made}
-use Rattle.maker.specs.declared.Made.TheVariants.{Refused}
 use Rattle.std.specs.Prelude.{Ok}
+use Rattle.sheet.specs.declared.Refused.{Refused}
 
 pub record Passes (s rows : List ℕ) (wires : ℕ) : Type 0 where
   pub sheet : Sheet
@@ -55,11 +55,11 @@ passes s counts e mapped =
 
 module _ (s lent : List ℕ) where
   pub make-stopped : {why : Refusal} {place : ℕ} → sheet_of s ≡ refusal why place
-      → (Refused why place ≡ (maker_call s lent).answer) × (lent ≡ (maker_call s lent).list)
+      → (refused_at why place ≡ (maker_call s lent).answer) × (lent ≡ (maker_call s lent).list)
   unfolding maker_call maker_outcome
   make-stopped e = rw e (refl, refl)
 
-  pub make-passed : {sheet : Sheet} {answer : Made} {list : List ℕ} → sheet_of s ≡ result sheet → Makes sheet lent answer list
+  pub make-passed : {sheet : Sheet} {answer : Result ℕ Refused} {list : List ℕ} → sheet_of s ≡ result sheet → Makes sheet lent answer list
       → (answer ≡ (maker_call s lent).answer) × (list ≡ (maker_call s lent).list)
   unfolding maker_call maker_outcome
   make-passed e makes = rw e (makes.answers, makes.leaves)

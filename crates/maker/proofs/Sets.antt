@@ -1,10 +1,10 @@
 -- Sets with one wire less, as the loops over a set have them.
-use Prim.Native.Nat.{ℕ, ◌≤◌}
+use Prim.Native.Nat.{ℕ}
 use mathlib.Core.Path.{◌≡◌, sym, ◌∙◌}
-use mathlib.Core.Bool.{true, not, ◌&&◌}
+use mathlib.Core.Bool.{true, false, not, ◌&&◌}
 use lib.Dec.{eqb}
 use borrow.Author.Tests.{ne_eqb, eqb-false, not-true}
-use Rattle.wires.specs.Sets.{member, LowestPresent}
+use Rattle.wires.specs.Sets.{member}
 use Rattle.sheet.specs.Laws.Lists.{never, both}
 
 -- the wires of a set without one of them
@@ -17,5 +17,5 @@ module _ (bits rest wire : ℕ) (without : (k : ℕ) → member rest k ≡ (memb
       let (old, other) = both (member bits x) (not (eqb x wire)) (sym (without x) ∙ i) in
       (old, eqb-false x wire (not-true (eqb x wire) other))
 
-pub none_left : (bits : ℕ) {wire : ℕ} → LowestPresent (member bits) 64 wire → 64 ≤ wire → (x : ℕ) → member bits x ≡ true → ⊥
-none_left bits low past x i = never (cc (low.empty past x, i))
+pub none_left : (bits : ℕ) → ((x : ℕ) → member bits x ≡ false) → (x : ℕ) → member bits x ≡ true → ⊥
+none_left bits none x i = never (cc (none x, i))

@@ -1,20 +1,20 @@
 -- How the code's tests and turns go into the definition of the made list.
 use Prim.Native.Nat.{ℕ, zero, suc, ◌+◌, ◌≤◌, ◌<◌}
 use mathlib.Core.Path.{◌≡◌, refl, sym, ap, ◌∙◌}
-use mathlib.Core.Bool.{Bool, true, false, not, ◌&&◌, cond}
+use mathlib.Core.Bool.{Bool, true, false, not, ◌&&◌}
 use mathlib.Core.List.{List, [], ◌∷◌, ◌++◌}
-use lib.Dec.{eqb, ltb, leb}
+use lib.Dec.{ltb, leb}
 use native.Mathlib.Nat.{le_antisymm, lt_of_not-le}
 use native.Mathlib.Numerals.{add-one}
 use native.Mathlib.Omega.{arith}
 use lib.ListN.{length, get_or, take, set, replicate}
 use lib.Seq.{take-suc-set}
 use borrow.Author.Count.{below_more}
-use borrow.Author.Tests.{eq-eqb, ne_eqb, eqb-true, eqb-false, le-leb, leb-true, lt-ltb, ltb-true, not-true}
+use borrow.Author.Tests.{eq-eqb, ne_eqb, le-leb, leb-true, lt-ltb, ltb-true, not-true}
 use Rattle.wires.specs.Sets.{member}
 use Rattle.wires.specs.Laws.{none_in}
 use Rattle.sheet.specs.Lists.{among, all_among}
-use Rattle.sheet.specs.Outcomes.{result, lowest, unless_length, unless_any}
+use Rattle.sheet.specs.Outcomes.{result, lowest, unless_length, unless_any, refused_at}
 use Rattle.sheet.specs.Sheets.{Sheet}
 use Rattle.sheet.specs.Typing.{WellTyped}
 use Rattle.sheet.specs.Laws.Lists.{never, both, among-each}
@@ -33,8 +33,7 @@ use Rattle.maker.specs.Queue.{Queue}
 use Rattle.maker.proofs.Laws.Making.{placed-length, put_at, Filled}
 use Rattle.maker.proofs.Laws.Schedules.{made_schedule, filled_none, stuck-low}
 use Rattle.maker.proofs.Noting.{Noted, none-noted}
-use Rattle.maker.specs.declared.Made.{Made}
-use Rattle.maker.specs.declared.Made.TheVariants.{Refused, Done}
+use Rattle.std.specs.Prelude.{Ok}
 
 -- the wires from w on and below n, as a test
 unfoldable pub between : (w n x : ℕ) → Bool
@@ -145,7 +144,7 @@ module _ (sheet : Sheet) (lent : List ℕ) (wires : ℕ) (are : wire_count sheet
   unfolding lowest_loop reaches_itself
   same-loop = ap (λ n. lowest (λ w. through (reads sheet) n w w) wires) (sym are)
 
-  pub refused_17 : (length lent ≡ wires → ⊥) → Makes sheet lent (Refused ScheduleLength 0) lent
+  pub refused_17 : (length lent ≡ wires → ⊥) → Makes sheet lent (refused_at ScheduleLength 0) lent
   refused_17 other = let e = ne_eqb (length lent) wires other in record { answers = rw (made-is, e); leaves = rw (made-is, e) }
 
   module _ (sized : length lent ≡ wires) {order : List ℕ} {r depth : ℕ} (placed : Placed (reads_of sheet) wires order r depth) where
@@ -157,7 +156,7 @@ module _ (sheet : Sheet) (lent : List ℕ) (wires : ℕ) (are : wire_count sheet
         let greatest = placed.greatest_is (depth_of sheet) (rw are at (depths_are sheet (made_list sheet) schedule)) in
         (rw (all, ← are) at greatest) ∙ deepest-along sheet (made_list sheet) schedule
 
-    made : r ≡ wires → Makes sheet lent (Done depth) (take wires order)
+    pub made : r ≡ wires → Makes sheet lent (Ok depth) (take wires order)
     unfolding made_list
     made all =
         let full = rw (all, ← are) at placed.filled in
@@ -176,18 +175,8 @@ module _ (sheet : Sheet) (lent : List ℕ) (wires : ℕ) (are : wire_count sheet
         (stuck-low sheet typed (placed_by (reads_of sheet) (wire_count sheet) r) (omega arith)
         (λ w l. lowest-first (ready (reads_of sheet) (placed_by (reads_of sheet) (wire_count sheet) r)) (wire_count sheet) w (omega arith)))
 
-    refused_21 : WellTyped sheet → (r ≡ wires → ⊥) → Makes sheet lent (Refused NoSchedule (lowest_loop (reads sheet) wires)) lent
-    refused_21 typed some =
-        let few : r < wires = lt_of_not-le (λ (l : wires ≤ r). some (le_antisymm placed.few l)) in
+    pub refused_21 : WellTyped sheet → r < wires → Makes sheet lent (refused_at NoSchedule (lowest_loop (reads sheet) wires)) lent
+    refused_21 typed few =
         let e = eq-eqb (length lent) wires sized in
         let low = lt-ltb (lowest (reaches_itself sheet) wires) wires (left_out typed few) in
         record { answers = rw (made-is, e, low, same-loop); leaves = rw (made-is, e, low) }
-
-    -- what is answered and left, by whether as many were placed as there are wires
-    module _ {answer : Made} {list : List ℕ}
-        (is : answer ≡ cond (eqb r wires) (Done depth) (Refused NoSchedule (lowest_loop (reads sheet) wires))) where
-      pub all_placed : eqb r wires ≡ true → list ≡ take (length lent) order → Makes sheet lent answer list
-      all_placed all copied = rw (is, all, copied, sized) (made (eqb-true r wires all))
-
-      pub not-all-placed : WellTyped sheet → eqb r wires ≡ false → list ≡ lent → Makes sheet lent answer list
-      not-all-placed typed some kept = rw (is, some, kept) (refused_21 typed (eqb-false r wires some))

@@ -1,15 +1,14 @@
 -- The maker of a schedule: the list that it makes, and the call from the sheet's bytes and the lent list, refusals included. On success it
 -- reports the greatest depth too.
-use Rattle.std.specs.Prelude.{ℕ, zero, suc, Bool, not, ◌&&◌, List, [], ◌∷◌, ◌++◌, length}
+use Rattle.std.specs.Prelude.{ℕ, zero, suc, Bool, not, ◌&&◌, List, [], ◌∷◌, ◌++◌, length, Result, Ok, Err}
 use Rattle.sheet.specs.Lists.{among, all_among}
-use Rattle.sheet.specs.Outcomes.{Outcome, refusal, result, followed_by, holds_after, lowest, unless_length, unless_any, packed_refusal}
+use Rattle.sheet.specs.Outcomes.{Outcome, refusal, result, followed_by, holds_after, lowest, unless_length, unless_any, packed_refusal, refused_at}
 use Rattle.sheet.specs.Sheets.{Sheet, sheet_of}
 use Rattle.sheet.specs.declared.Refusal.TheVariants.{ScheduleLength, NoSchedule}
 use Rattle.kernel.specs.Instants.{wire_count}
 use Rattle.kernel.specs.Depths.{greatest_depth}
 use Rattle.maker.specs.Reaching.{reads_of, reaches_itself}
-use Rattle.maker.specs.declared.Made.{Made}
-use Rattle.maker.specs.declared.Made.TheVariants.{Refused, Done}
+use Rattle.sheet.specs.declared.Refused.{Refused}
 
 module _ (reads_of : ℕ → List ℕ) where
   -- a wire that is not yet placed, and whose reads within the instant are all placed already
@@ -44,18 +43,18 @@ maker_outcome s lent = followed_by (sheet_of s) (λ sheet. made_of sheet lent)
 
 -- what the call of the maker leaves
 pub record MakerCall : Type 0 where
-  pub answer : Made
+  pub answer : Result ℕ Refused
   pub list : List ℕ
 
-abbrev pub made_answer : Outcome Schedule → Made
-made_answer (refusal why place) = Refused why place
-made_answer (result made) = Done made.depth
+abbrev pub made_answer : Outcome Schedule → Result ℕ Refused
+made_answer (refusal why place) = refused_at why place
+made_answer (result made) = Ok made.depth
 
 unfoldable pub maker_call : (s lent : List ℕ) → MakerCall
 maker_call s lent =
     record { answer = made_answer (maker_outcome s lent); list = holds_after (maker_outcome s lent) (λ made. made.list) lent }
 
 -- the answer as one number: the greatest depth, or a refusal
-abbrev pub packed_made : Made → ℕ
-packed_made (Refused why place) = packed_refusal why place
-packed_made (Done depth) = depth
+abbrev pub packed_made : Result ℕ Refused → ℕ
+packed_made (Err r) = packed_refusal r.why r.place
+packed_made (Ok depth) = depth

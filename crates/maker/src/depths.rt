@@ -12,16 +12,9 @@ fn deepest_of(set: Wires, depths: &[u8; 64]) -> u8
     ensures by_index { (wires : List ℕ) → HoldsJust set.bits wires → result ≡ deepest (noted depths.now) wires }
     ensures by_index_2 { (most : ℕ) → ((w : ℕ) → noted depths.now w ≤ most) → result ≤ most }
 {
-    let mut deepest = 0;
-    let mut left = set;
-    let mut wire = left.lowest() as usize;
-    while wire < 64 {
-        let depth = depths[wire];
-        if deepest < depth {
-            deepest = depth;
-        }
-        left = left.without(wire);
-        wire = left.lowest() as usize;
+    let mut deepest = 0u8;
+    for wire in set {
+        deepest = deepest.max(depths[wire]);
     }
     deepest
 }
@@ -38,8 +31,5 @@ pub fn note(wire: usize, read: Wires, depths: &mut [u8; 64], greatest: u8) -> u8
 {
     let depth = deepest_of(read, depths) + 1;
     depths[wire] = depth;
-    if greatest < depth {
-        return depth;
-    }
-    greatest
+    greatest.max(depth)
 }

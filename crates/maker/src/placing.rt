@@ -19,15 +19,16 @@ fn look_at(wire: usize, read: Wires, placed: Wires, ready: Wires, waiting: &mut 
     ensures waiting_len_unchanged { length waiting.new ≡ length waiting.old }
 {
     let missing = read.minus(placed);
-    let awaited = missing.lowest() as usize;
-    if 64 <= awaited {
-        return ready.with(wire);
+    match missing.into_iter().next() {
+        None => ready.with(wire),
+        Some(awaited) => {
+            let row = Wires {
+                bits: waiting[awaited],
+            };
+            waiting[awaited] = row.with(wire).bits;
+            ready
+        }
     }
-    let bits = waiting[awaited];
-    let row = Wires { bits };
-    let more = row.with(wire);
-    waiting[awaited] = more.bits;
-    ready
 }
 
 // Looks at each of so many wires, none of which is placed yet.
@@ -40,11 +41,9 @@ fn look_at_all(reads: &[u64; 64], wires: usize, waiting: &mut [u64; 64]) -> Wire
 {
     let placed = Wires::none();
     let mut ready = placed;
-    let mut w = 0;
-    while w < wires {
-        let bits = reads[w];
-        ready = look_at(w, Wires { bits }, placed, ready, waiting);
-        w += 1;
+    for wire in 0..wires {
+        let read = Wires { bits: reads[wire] };
+        ready = look_at(wire, read, placed, ready, waiting);
     }
     ready
 }
@@ -65,13 +64,9 @@ fn look_again(
     ensures waiting_len_unchanged { length waiting.new ≡ length waiting.old }
 {
     let mut found = ready;
-    let mut left = set;
-    let mut wire = left.lowest() as usize;
-    while wire < 64 {
-        let bits = reads[wire];
-        found = look_at(wire, Wires { bits }, placed, found, waiting);
-        left = left.without(wire);
-        wire = left.lowest() as usize;
+    for wire in set {
+        let read = Wires { bits: reads[wire] };
+        found = look_at(wire, read, placed, found, waiting);
     }
     found
 }
@@ -96,20 +91,22 @@ pub fn place_all(reads: &[u64; 64], wires: usize, order: &mut [u8; 64]) -> Posit
     let mut ready = look_at_all(reads, wires, &mut waiting);
     let mut placed = Wires::none();
     let mut depth = 0;
-    let mut p = 0;
-    while p < wires {
-        let wire = ready.lowest() as usize;
-        if 64 <= wire {
+    for p in 0..wires {
+        let Some(wire) = ready.into_iter().next() else {
             return Positions { filled: p, depth };
-        }
+        };
         order[p] = wire as u8;
         placed = placed.with(wire);
-        let read = reads[wire];
-        depth = depths::note(wire, Wires { bits: read }, &mut depths, depth);
-        let bits = waiting[wire];
+        let read = Wires { bits: reads[wire] };
+        depth = depths::note(wire, read, &mut depths, depth);
+        let again = Wires {
+            bits: waiting[wire],
+        };
         let others = ready.without(wire);
-        ready = look_again(reads, Wires { bits }, placed, others, &mut waiting);
-        p += 1;
+        ready = look_again(reads, again, placed, others, &mut waiting);
     }
-    Positions { filled: p, depth }
+    Positions {
+        filled: wires,
+        depth,
+    }
 }

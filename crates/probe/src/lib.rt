@@ -10,7 +10,6 @@ ghost use Rattle.join.specs.Calls.{join_call, packed_joining};
 ghost use Rattle.probe.specs.Ticks.{probe_tick, Probes, state_after};
 
 use board::{Standing, Ticked};
-use maker::Made;
 
 // The maker of a schedule: the greatest depth, or a refusal; the list gets the schedule.
 #[unsafe(no_mangle)]
@@ -19,8 +18,8 @@ pub extern "C" fn probe_schedule(sheet: &[u8], list: &mut [u8]) -> u32
     ensures list_after { list.new ≡ (maker_call sheet.now list.old).list }
 {
     match maker::make(sheet, list) {
-        Made::Refused { why, place } => why.at(place).packed(),
-        Made::Done { depth } => depth as u32,
+        Err(refused) => refused.packed(),
+        Ok(depth) => depth as u32,
     }
 }
 

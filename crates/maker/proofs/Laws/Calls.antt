@@ -1,20 +1,21 @@
 -- What the answer of the maker's call says, on any bytes: a made list is a schedule with the lowest wire possible at every position,
 -- along which every scheduled instant agrees with the rounds, which are at most the reported depth plus one; 21 comes exactly if no list
 -- passes 18 and 19, at the lowest wire that reaches itself; and it refuses with no other numbers than 1 to 11, 17 and 21.
-use Rattle.std.specs.Prelude.{◌≡◌, ℕ, ◌≤◌, Bool, cond, List, ◌⊎◌, ◌↔◌, eqb}
+use Rattle.std.specs.Prelude.{◌≡◌, ℕ, ◌≤◌, Bool, cond, List, ◌⊎◌, ◌↔◌, eqb, Ok}
 use Rattle.std.proofs.Math.Path.{refl, sym}
-use Rattle.std.proofs.Common.{subst, ◌∙◌, inl, inr, eqb-true, ltb-true}
+use Rattle.std.proofs.Common.{ap, subst, ◌∙◌, inl, inr, eqb-true, ltb-true}
 use native.Mathlib.Omega.{arith}
 use Rattle.std.proofs.Math.Bool.{true, false}
 use Rattle.std.proofs.Math.Dec.{ltb}
 use Rattle.std.proofs.Math.ListN.{length}
 use Rattle.std.proofs.lemmas.Bool.{eqb-false}
-use Rattle.sheet.specs.Outcomes.{Outcome, refusal, result, followed_by, lowest, number_of, unless_any}
+use Rattle.sheet.specs.Outcomes.{Outcome, refusal, result, followed_by, lowest, number_of, unless_any, refused_at}
 use Rattle.sheet.specs.Sheets.{Sheet, sheet_of}
 use Rattle.sheet.specs.Laws.Lists.{never}
 use Rattle.sheet.specs.Laws.Outcomes.{same-result}
 use Rattle.sheet.specs.Laws.Refusals.{OutcomeWithin, refusal-within, sheet-of-within}
 use Rattle.sheet.proofs.Laws.Typing.{passed_check, checked_well_typed}
+use Rattle.sheet.specs.declared.Refused.{Refused}
 use Rattle.sheet.specs.declared.Refusal.{Refusal}
 use Rattle.sheet.specs.declared.Refusal.TheVariants.{ScheduleLength, NoSchedule}
 use Rattle.kernel.specs.Instants.{wire_count}
@@ -30,7 +31,12 @@ use Rattle.maker.specs.Reaching.{Reads, reaches_itself}
 use Rattle.maker.specs.Making.{made_list, Schedule, schedule_for, made_of, maker_outcome, maker_call, made_answer}
 use Rattle.maker.proofs.Laws.Schedules.{lowest-loop, schedule_acyclic, LowestEverywhere, LeastEverywhere}
 use Rattle.maker.proofs.Laws.Schedules.{made-lowest, made-least, made_schedule, none_filled}
-use Rattle.maker.specs.declared.Made.TheVariants.{Refused, Done}
+
+-- the parts of a refusal that is answered
+parts : {why found : Refusal} {place at : ℕ} → refused_at {A = ℕ} found at ≡ refused_at why place → (found ≡ why) × (at ≡ place)
+parts {why} {found} {place} {at} e =
+    let same : ◌≡◌ {A = Refused} (record { why = found; place = at }) (record { why = why; place = place }) = cc in
+    (ap (λ (r : Refused). r.why) same, ap (λ (r : Refused). r.place) same)
 
 -- no list passes the checks 17 to 19
 abbrev pub NoList : Sheet → Type 0
@@ -72,9 +78,9 @@ module _ (s lent : List ℕ) where
     pub refused : sheet_of s ≡ refusal why place
 
   pub record MakerAnswered : Type 0 where
-    pub made : (depth : ℕ) → (maker_call s lent).answer ≡ Done depth → MadeFor depth
-    pub loops : (place : ℕ) → (maker_call s lent).answer ≡ Refused NoSchedule place → LoopsAt place
-    pub refused : (why : Refusal) (place : ℕ) → (maker_call s lent).answer ≡ Refused why place
+    pub made : (depth : ℕ) → (maker_call s lent).answer ≡ Ok depth → MadeFor depth
+    pub loops : (place : ℕ) → (maker_call s lent).answer ≡ refused_at NoSchedule place → LoopsAt place
+    pub refused : (why : Refusal) (place : ℕ) → (maker_call s lent).answer ≡ refused_at why place
         → (why ≡ NoSchedule) ⊎ (((why ≡ ScheduleLength) × WrongLength place) ⊎ RefusedSheet why place)
 
   -- the four ways in which the maker comes to its outcome
@@ -128,7 +134,7 @@ module _ (s lent : List ℕ) where
         refused = λ why place a. refused why place _ comes a;
       }
     where
-      made : (depth : ℕ) (x : Outcome Schedule) → maker_outcome s lent ≡ x → Comes x → made_answer x ≡ Done depth → MadeFor depth
+      made : (depth : ℕ) (x : Outcome Schedule) → maker_outcome s lent ≡ x → Comes x → made_answer x ≡ Ok depth → MadeFor depth
       made depth _ q (before e) a = never (cc)
       made depth _ q (sized sheet read other) a = never (cc)
       made depth _ q (looped sheet read counted loop) a = never (cc)
@@ -146,39 +152,37 @@ module _ (s lent : List ℕ) where
             few = rw reported at (depth-few sheet);
           }
 
-      loops : (place : ℕ) (x : Outcome Schedule) → Comes x → made_answer x ≡ Refused NoSchedule place → LoopsAt place
+      loops : (place : ℕ) (x : Outcome Schedule) → Comes x → made_answer x ≡ refused_at NoSchedule place → LoopsAt place
       loops place _ (before {why = why} e) a =
-          let why-is : why ≡ NoSchedule = cc in absurd (omega (arith, rw why-is at (check_number e)))
-      loops place _ (sized sheet read other) a = never (cc)
+          absurd (omega (arith, rw (parts a).0 at (check_number e)))
+      loops place _ (sized sheet read other) a = never (cc (parts a).0)
       loops place _ (looped sheet read counted {place = at} loop) a =
-          let place_is : at ≡ place = cc in
-          record { sheet = sheet; read = read; counted = counted; loop = rw place_is at loop; none = no_list sheet loop }
+          record { sheet = sheet; read = read; counted = counted; loop = rw (parts a).1 at loop; none = no_list sheet loop }
       loops place _ (found sheet read counted schedule everywhere least) a = never (cc)
 
-      refused : (why : Refusal) (place : ℕ) (x : Outcome Schedule) → Comes x → made_answer x ≡ Refused why place
+      refused : (why : Refusal) (place : ℕ) (x : Outcome Schedule) → Comes x → made_answer x ≡ refused_at why place
           → (why ≡ NoSchedule) ⊎ (((why ≡ ScheduleLength) × WrongLength place) ⊎ RefusedSheet why place)
       refused why place _ (before {why = reason} {place = at} e) a =
-          let why-is : reason ≡ why = cc in
-          let place_is : at ≡ place = cc in
+          let (why-is, place_is) = parts a in
           inr (inr (record { number = rw why-is at (check_number e); refused = rw (e, why-is, place_is) }))
       refused why place _ (sized sheet read other) a =
-          inr (inl (cc, record { sheet = sheet; read = read; other = other; first = cc }))
-      refused why place _ (looped sheet read counted loop) a = inl (cc)
+          inr (inl (sym (parts a).0, record { sheet = sheet; read = read; other = other; first = sym (parts a).1 }))
+      refused why place _ (looped sheet read counted loop) a = inl (sym (parts a).0)
       refused why place _ (found sheet read counted schedule everywhere least) a = never (cc)
 
   -- of a sheet that passes the check, with a lent list of its length, 21 comes exactly if no list passes
   pub refused-exactly : (sheet : Sheet) → sheet_of s ≡ result sheet → length lent ≡ wire_count sheet
-      → ((place : ℕ) × ((maker_call s lent).answer ≡ Refused NoSchedule place)) ↔ NoList sheet
+      → ((place : ℕ) × ((maker_call s lent).answer ≡ refused_at NoSchedule place)) ↔ NoList sheet
   unfolding maker_call
   refused-exactly sheet read counted = (λ refused. forth refused.0 refused.1, back _ comes)
     where
       same-sheet : {other : Sheet} → sheet_of s ≡ result other → other ≡ sheet
       same-sheet e = same-result (sym e ∙ read)
 
-      forth : (place : ℕ) → made_answer (maker_outcome s lent) ≡ Refused NoSchedule place → NoList sheet
+      forth : (place : ℕ) → made_answer (maker_outcome s lent) ≡ refused_at NoSchedule place → NoList sheet
       forth place a = let at = maker_answered.loops place a in subst NoList (same-sheet at.read) at.none
 
-      back : (x : Outcome Schedule) → Comes x → NoList sheet → (place : ℕ) × (made_answer x ≡ Refused NoSchedule place)
+      back : (x : Outcome Schedule) → Comes x → NoList sheet → (place : ℕ) × (made_answer x ≡ refused_at NoSchedule place)
       back _ (before e) none = never (cc (e, read))
       back _ (sized other e wrong) none = absurd (wrong (rw (same-sheet e) counted))
       back _ (looped other e n {place = place} loop) none = (place, refl)
@@ -188,7 +192,7 @@ module _ (s lent : List ℕ) where
           absurd (subst NoList (sym (same-sheet e)) none list list passes)
 
   -- demand 3 along the list that was made: the scheduled instant accepts it, and agrees with the rounds
-  pub made-agrees : (depth : ℕ) (memory input output other : List ℕ) (given second : Given) → (maker_call s lent).answer ≡ Done depth
+  pub made-agrees : (depth : ℕ) (memory input output other : List ℕ) (given second : Given) → (maker_call s lent).answer ≡ Ok depth
       → given_of s memory input output ≡ result given → given_of s memory input other ≡ result second
       → Demand3 s memory input output other (maker_call s lent).list given
   made-agrees depth memory input output other given second a passes other_passes =
@@ -199,7 +203,7 @@ module _ (s lent : List ℕ) where
       (subst (λ sheet. IsSchedule sheet (maker_call s lent).list) same made.schedule)
 
   -- K6 from the maker's answer, whatever the memory and the rows: the rounds are at most one more than the depth that was reported
-  pub made_rounds : (depth : ℕ) → (maker_call s lent).answer ≡ Done depth → (memory input output : List ℕ)
+  pub made_rounds : (depth : ℕ) → (maker_call s lent).answer ≡ Ok depth → (memory input output : List ℕ)
       → RoundsWithin s memory input output depth
   made_rounds depth a memory input output =
       let made = maker_answered.made depth a in
@@ -208,20 +212,20 @@ module _ (s lent : List ℕ) where
       rw made.greatest (rounds_within-depth s memory input output made.sheet made.read list list passed)
 
   -- every depth is at most 64 and every place at most 4,096, so that the answer packs
-  pub depth-bounded : {depth : ℕ} → (maker_call s lent).answer ≡ Done depth → depth ≤ 64
+  pub depth-bounded : {depth : ℕ} → (maker_call s lent).answer ≡ Ok depth → depth ≤ 64
   depth-bounded {depth} a =
       let made = maker_answered.made depth a in omega (arith, made.few, (passed_check s made.read).few-wires)
 
-  pub maker_bounded : {why : Refusal} {place : ℕ} → (maker_call s lent).answer ≡ Refused why place → place ≤ 4096
+  pub maker_bounded : {why : Refusal} {place : ℕ} → (maker_call s lent).answer ≡ refused_at why place → place ≤ 4096
   unfolding maker_call
   maker_bounded {why} {place} = go _ comes
     where
-      go : (x : Outcome Schedule) → Comes x → made_answer x ≡ Refused why place → place ≤ 4096
-      go _ (before {place = at} e) a = let place_is : at ≡ place = cc in rw place_is at (bounded (rw e at (sheet-of-within s)))
+      go : (x : Outcome Schedule) → Comes x → made_answer x ≡ refused_at why place → place ≤ 4096
+      go _ (before {place = at} e) a = rw (parts a).1 at (bounded (rw e at (sheet-of-within s)))
         where
           bounded : {why : Refusal} {at : ℕ} → OutcomeWithin {A = Sheet} 11 (refusal why at) → at ≤ 4096
           bounded (refusal-within w) = w.bounded
-      go _ (sized sheet read other) a = let first : 0 ≡ place = cc in omega arith
+      go _ (sized sheet read other) a = omega (arith, (parts a).1)
       go _ (looped sheet read counted {place = at} loop) a =
-          let place_is : at ≡ place = cc in omega (arith, loop.in_range, (passed_check s read).few-wires)
+          omega (arith, (parts a).1, loop.in_range, (passed_check s read).few-wires)
       go _ (found sheet read counted schedule everywhere least) a = never (cc)

@@ -7,24 +7,24 @@ use Rattle.probe.proofs.probe_schedule.Goals as goal
 
 pub packed-requires : goal.packed-requires
 packed-requires c =
-    let within = maker_bounded _ _ (sym c.make.ensures.value ∙ c.in-Refused.is) in
-    rw c.at.ensures (omega arith)
+    let within = maker_bounded _ _ (sym c.make.ensures.value ∙ c.in-Err.is) in
+    omega arith
 
 pub overflow_cast-result : goal.overflow_cast-result
 overflow_cast-result c =
-    let within = depth-bounded _ _ (sym c.make.ensures.value ∙ c.in-Done.is) in
+    let within = depth-bounded _ _ (sym c.make.ensures.value ∙ c.in-Ok.is) in
     omega arith
 
-pub returns-in-Refused : goal.returns-in-Refused
-returns-in-Refused c = let ensured = c.make.ensures in
+pub returns-in-Err : goal.returns-in-Err
+returns-in-Err c = let ensured = c.make.ensures in
     record {
-      value = (rw c.at.ensures at c.packed.ensures) ∙ ap packed_made (sym c.in-Refused.is ∙ ensured.value);
+      value = c.packed.ensures ∙ ap packed_made (sym c.in-Err.is ∙ ensured.value);
       list_after = ensured.list_after;
     }
 
-pub returns-in-Done : goal.returns-in-Done
-returns-in-Done c = let ensured = c.make.ensures in
+pub returns-in-Ok : goal.returns-in-Ok
+returns-in-Ok c = let ensured = c.make.ensures in
     record {
-      value = ap packed_made (sym c.in-Done.is ∙ ensured.value);
+      value = ap packed_made (sym c.in-Ok.is ∙ ensured.value);
       list_after = ensured.list_after;
     }

@@ -1,5 +1,5 @@
 -- `look_at_all` meets its contract. The loop's invariant: the wires passed were looked at.
-use Prim.Native.Nat.{ℕ, ◌≤◌, ◌-◌}
+use Prim.Native.Nat.{ℕ}
 use mathlib.Core.Path.{◌≡◌}
 use mathlib.Core.Bool.{true}
 use mathlib.Core.List.{List, []}
@@ -10,11 +10,8 @@ use Rattle.maker.specs.Queue.{Queue}
 use Rattle.maker.proofs.Steps.{between}
 use Rattle.maker.proofs.placing.look_at_all.Given as goal
 
-abbrev pub invariant-loop-w : goal.invariant-loop-w
-invariant-loop-w l =
-    (l.w ≤ l.wires) × (length l.waiting ≡ length l.initial.waiting)
+abbrev pub invariant-loop-wire : goal.invariant-loop-wire
+invariant-loop-wire l =
+    (length l.waiting ≡ length l.initial.waiting)
     × ((reads_of : ℕ → List ℕ) → EachHoldsJust l.reads l.wires reads_of → ((v x : ℕ) → member (get_or l.initial.waiting v 0) x ≡ true → ⊥)
-    → Queue reads_of l.wires [] (λ x. between l.w l.wires x ≡ true) l.ready.bits l.waiting)
-
-abbrev pub decreases-loop-w : goal.decreases-loop-w
-decreases-loop-w l = l.wires - l.w
+    → Queue reads_of l.wires [] (λ x. between l.wire l.wires x ≡ true) l.ready.bits l.waiting)

@@ -6,7 +6,7 @@ ghost use Rattle.std.specs.Prelude.{◌≡◌, ◌≤◌, ◌<◌, length};
 
 use board::{Standing, Ticked};
 use std::io;
-use text::put_bytes;
+use text::{put_bytes, Text};
 
 // A row for each tick: due marks and restart marks, 1 for the tariff, 2 for the relay and 4 for the display, and then all inputs
 // in board order: pulse, night; contact, opened, service; button.
@@ -171,11 +171,13 @@ fn print_served(rt: &impl Print, sheet: usize, rounds: usize, output: &[u8]) -> 
 fn print_sheet(rt: &impl Print, name: &[u8], rounds: usize, output: &[u8]) -> io::Result<()>
     requires { length output.now ≤ 16 }
 {
-    let mut text = [0u8; 48];
-    let size = text::put_numbers(&mut text, 0, output);
+    let mut bytes = [0u8; 48];
+    let mut text = Text::new(&mut bytes);
+    text.put_numbers(output);
+    let size = text.size;
     print_number(rt, name, rounds)?;
     rt.write_all(b" rounds, outputs")?;
-    rt.write_all(&text[..size])
+    rt.write_all(&bytes[..size])
 }
 
 // Prints words and marks, as one number.

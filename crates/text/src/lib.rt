@@ -1,13 +1,13 @@
-// Pieces of text, put one after another into a lent buffer: each function returns the place past what it put.
+// Text, put piece after piece into a lent buffer.
 // Rests on `numbers` for the numbers of an output row.
 #![tactic(auto)]
 
-ghost use Rattle.std.specs.Prelude.{◌+◌, ◌*◌, ◌≤◌, [], ◌∷◌, length};
+ghost use Rattle.std.specs.Prelude.{◌≡◌, ◌+◌, ◌*◌, ◌≤◌, [], ◌∷◌, length};
 ghost use Rattle.text.specs.Buffers.{Puts};
 ghost use Rattle.text.specs.Digits.{digits, decimal};
 ghost use Rattle.text.specs.Pieces.{spaced, spaced_all, numbers_of};
 
-// Puts bytes as they are.
+// Puts bytes into a buffer at a place of their own. The place past them.
 pub fn put_bytes(buffer: &mut [u8], at: usize, text: &[u8]) -> usize
     requires { at + length text.now ≤ length buffer.old }
     ensures { Puts buffer.old at text.now buffer.new result }
@@ -17,61 +17,102 @@ pub fn put_bytes(buffer: &mut [u8], at: usize, text: &[u8]) -> usize
     past
 }
 
-// Puts one byte.
-pub fn put_byte(buffer: &mut [u8], at: usize, byte: u8) -> usize
-    requires { at + 1 ≤ length buffer.old }
-    ensures { Puts buffer.old at (byte ∷ []) buffer.new result }
-{
-    buffer[at] = byte;
-    at + 1
+// The text that was put so far: the first `size` bytes of a lent buffer.
+#[derive(Drop)]
+pub struct Text<'a> {
+    pub buffer: &'a mut [u8],
+    pub size: usize,
 }
 
-// Puts a number's digits: those of its tenth part, then the last one.
-pub fn put_digits(buffer: &mut [u8], at: usize, n: u32) -> usize
-    requires { at + 10 ≤ length buffer.old }
-    ensures puts { Puts buffer.old at (digits n) buffer.new result }
-    ensures upper_bound { result ≤ at + 10 }
-{
-    if n < 10 {
-        return put_byte(buffer, at, 48 + n as u8);
+impl<'a> Text<'a> {
+    // No text yet, in a buffer that holds anything.
+    pub fn new(buffer: &'a mut [u8]) -> Text<'a>
+        ensures same_reference { result.buffer.ghost_name ≡ buffer.entry.ghost_name }
+        ensures untouched { result.buffer.now ≡ buffer.old }
+        ensures size { result.size ≡ 0 }
+    {
+        Text { buffer, size: 0 }
     }
-    let last = put_digits(buffer, at, n / 10);
-    put_byte(buffer, last, 48 + (n % 10) as u8)
-}
 
-// Puts a signed number: a sign where it is below zero, then the digits of its magnitude.
-pub fn put_number(buffer: &mut [u8], at: usize, z: i32) -> usize
-    requires { at + 11 ≤ length buffer.old }
-    ensures puts { Puts buffer.old at (decimal z) buffer.new result }
-    ensures upper_bound { result ≤ at + 11 }
-{
-    if z < 0 {
-        let next = put_byte(buffer, at, b'-');
-        return put_digits(buffer, next, z.unsigned_abs());
+    // Puts bytes as they are.
+    pub fn put(&mut self, bytes: &[u8])
+        requires { self.old.size + length bytes.now ≤ length self.old.buffer.now }
+        ensures same_reference { self.new.buffer.ghost_name ≡ self.old.buffer.ghost_name }
+        ensures same_length { length self.new.buffer.now ≡ length self.old.buffer.now }
+        ensures puts { Puts self.old.buffer.now self.old.size bytes.now self.new.buffer.now self.new.size }
+    {
+        self.size = put_bytes(self.buffer, self.size, bytes);
     }
-    put_digits(buffer, at, z.unsigned_abs())
-}
 
-// Puts a space and a number's digits.
-pub fn put_spaced(buffer: &mut [u8], at: usize, n: u32) -> usize
-    requires { at + 11 ≤ length buffer.old }
-    ensures puts { Puts buffer.old at (spaced n) buffer.new result }
-    ensures upper_bound { result ≤ at + 11 }
-{
-    let next = put_byte(buffer, at, b' ');
-    put_digits(buffer, next, n)
-}
-
-// Puts a space and the signed number for each four bytes of an output row.
-pub fn put_numbers(buffer: &mut [u8], at: usize, output: &[u8]) -> usize
-    requires { at + 3 * length output.now ≤ length buffer.old }
-    ensures puts { Puts buffer.old at (spaced_all (numbers_of output.now)) buffer.new result }
-    ensures upper_bound { result ≤ at + 3 * length output.now }
-{
-    if output.len() < 4 {
-        return at;
+    // Puts one byte.
+    pub fn put_byte(&mut self, byte: u8)
+        requires { self.old.size + 1 ≤ length self.old.buffer.now }
+        ensures same_reference { self.new.buffer.ghost_name ≡ self.old.buffer.ghost_name }
+        ensures same_length { length self.new.buffer.now ≡ length self.old.buffer.now }
+        ensures puts { Puts self.old.buffer.now self.old.size (byte ∷ []) self.new.buffer.now self.new.size }
+    {
+        self.buffer[self.size] = byte;
+        self.size += 1;
     }
-    let next = put_byte(buffer, at, b' ');
-    let past = put_number(buffer, next, numbers::of_bits(numbers::word_at(output, 0)));
-    put_numbers(buffer, past, &output[4..])
+
+    // Puts a number's digits: those of its tenth part, then the last one.
+    pub fn put_digits(&mut self, n: u32)
+        requires { self.old.size + 10 ≤ length self.old.buffer.now }
+        ensures same_reference { self.new.buffer.ghost_name ≡ self.old.buffer.ghost_name }
+        ensures same_length { length self.new.buffer.now ≡ length self.old.buffer.now }
+        ensures puts { Puts self.old.buffer.now self.old.size (digits n) self.new.buffer.now self.new.size }
+        ensures upper_bound { self.new.size ≤ self.old.size + 10 }
+    {
+        if n < 10 {
+            self.put_byte(b'0' + n as u8);
+            return;
+        }
+        self.put_digits(n / 10);
+        self.put_byte(b'0' + (n % 10) as u8);
+    }
+
+    // Puts a signed number: a sign where it is below zero, then the digits of its magnitude.
+    pub fn put_number(&mut self, z: i32)
+        requires { self.old.size + 11 ≤ length self.old.buffer.now }
+        ensures same_reference { self.new.buffer.ghost_name ≡ self.old.buffer.ghost_name }
+        ensures same_length { length self.new.buffer.now ≡ length self.old.buffer.now }
+        ensures puts { Puts self.old.buffer.now self.old.size (decimal z) self.new.buffer.now self.new.size }
+        ensures upper_bound { self.new.size ≤ self.old.size + 11 }
+    {
+        if z < 0 {
+            self.put_byte(b'-');
+            self.put_digits(z.unsigned_abs());
+            return;
+        }
+        self.put_digits(z.unsigned_abs());
+    }
+
+    // Puts a space and a number's digits.
+    pub fn put_spaced(&mut self, n: u32)
+        requires { self.old.size + 11 ≤ length self.old.buffer.now }
+        ensures same_reference { self.new.buffer.ghost_name ≡ self.old.buffer.ghost_name }
+        ensures same_length { length self.new.buffer.now ≡ length self.old.buffer.now }
+        ensures puts { Puts self.old.buffer.now self.old.size (spaced n) self.new.buffer.now self.new.size }
+        ensures upper_bound { self.new.size ≤ self.old.size + 11 }
+    {
+        self.put_byte(b' ');
+        self.put_digits(n);
+    }
+
+    // Puts a space and the signed number for each four bytes of an output row.
+    pub fn put_numbers(&mut self, output: &[u8])
+        requires { self.old.size + 3 * length output.now ≤ length self.old.buffer.now }
+        ensures same_reference { self.new.buffer.ghost_name ≡ self.old.buffer.ghost_name }
+        ensures same_length { length self.new.buffer.now ≡ length self.old.buffer.now }
+        ensures puts { Puts self.old.buffer.now self.old.size (spaced_all (numbers_of output.now))
+            self.new.buffer.now self.new.size }
+        ensures upper_bound { self.new.size ≤ self.old.size + 3 * length output.now }
+    {
+        if output.len() < 4 {
+            return;
+        }
+        self.put_byte(b' ');
+        self.put_number(numbers::of_bits(numbers::word_at(output, 0)));
+        self.put_numbers(&output[4..]);
+    }
 }

@@ -2,11 +2,11 @@
 use mir.Facts.{to_z-of_z}
 use Rattle.text.proofs.Putting.{then}
 use Rattle.text.proofs.Spelling.{below, above}
-use Rattle.text.proofs.put_number.Goals as goal
+use Rattle.text.proofs.Text.put_number.Goals as goal
 
 pub returns-then-z-lt0-clause-puts : goal.returns-then-z-lt0-clause-puts
 returns-then-z-lt0-clause-puts c =
-    let put = then c.put_byte-next.ensures c.put_digits.ensures.puts in
+    let put = then c.put_byte.ensures.puts c.put_digits.ensures.puts in
     rw (below _ c.ranges.z c.if-z-lt0.true, ← to_z-of_z c.ranges.z, ← c.unsigned_abs.ensures.value) put
 
 pub returns-clause-puts : goal.returns-clause-puts

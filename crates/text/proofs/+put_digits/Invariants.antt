@@ -1,6 +1,0 @@
--- `put_digits` puts the digits: of a number below ten the one, of a larger one those of its tenth part and then the last.
--- The measure is the number.
-use Rattle.text.proofs.+put_digits.Given as goal
-
-abbrev pub decreases-put_digits : goal.decreases-put_digits
-decreases-put_digits l = l.n

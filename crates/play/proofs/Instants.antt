@@ -18,7 +18,7 @@ use Rattle.play.specs.Text.{length_at, sheet_in, zeros, instant_of, instant_text
 use Rattle.play.specs.Stages.{next_instant, lines_left, Ready, Gives}
 use Rattle.play.specs.declared.Progress.{Progress}
 use Rattle.play.specs.declared.Stage.TheVariants.{Playing}
-use Rattle.play.specs.declared.Next.TheVariants.{Line}
+use Rattle.std.specs.Prelude.{Some}
 use Rattle.play.proofs.Giving.{gives, front}
 use Rattle.play.proofs.Sheet.{own-sheet}
 
@@ -98,7 +98,7 @@ module _ (bytes : List ℕ) (p : Progress) (ready : Ready bytes p) (some : 0 < p
           → length stored ≡ length (take p.memory memory) → length written ≡ length (take p.output (zeros 64))
           → next ≡ next_instant p
           → Holds before (row_line p.turn (numbers_of (take p.output (written ++ drop p.output (zeros 64))))) text size
-          → Gives bytes (lines_left bytes (Playing p) memory) before (Line size (Playing next)) text (stored ++ drop p.memory memory)
+          → Gives bytes (lines_left bytes (Playing p) memory) before (Some (record { size = size; stage = Playing next })) text (stored ++ drop p.memory memory)
       accepted-line e room kept kept-output is-next put =
           let cells = front p.memory memory stored kept (omega (arith, ready.memory)) in
           let outputs = front p.output (zeros 64) written kept-output ready.output in

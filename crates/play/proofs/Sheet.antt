@@ -19,7 +19,7 @@ use Rattle.play.specs.Text.{length_at, sheet_in, rows_in, zeros, instants_due, i
 use Rattle.play.specs.Stages.{first_instant, lines_left, Ready, Gives}
 use Rattle.play.specs.declared.Progress.{Progress}
 use Rattle.play.specs.declared.Stage.TheVariants.{Playing}
-use Rattle.play.specs.declared.Next.TheVariants.{Line}
+use Rattle.std.specs.Prelude.{Some}
 use Rattle.play.proofs.Giving.{gives, front}
 use Rattle.sheet.specs.declared.Counts.{Counts}
 use Rattle.sheet.specs.declared.Refused.{Refused}
@@ -124,7 +124,7 @@ module _ (bytes : List ℕ) {c : Counts} {n : ℕ} (passed : check_of (sheet_in 
       → length started ≡ length (take (5 * c.cells) memory)
       → started ≡ (start_call (take (2 + n - 2) (drop 2 bytes)) (take (5 * c.cells) memory)).memory
       → Holds before (sheet_line c.inputs c.wires c.outputs c.cells) text size
-      → Gives bytes (checked_text (check_of (sheet_in bytes)) (sheet_in bytes) (rows_in bytes)) before (Line size (Playing progress)) text
+      → Gives bytes (checked_text (check_of (sheet_in bytes)) (sheet_in bytes) (rows_in bytes)) before (Some (record { size = size; stage = Playing progress })) text
       (started ++ drop (5 * c.cells) memory)
   passed-line started memory whole few room e kept stores put =
       let fits : 5 * c.cells ≤ length memory = omega (arith, (few-counts (sheet_in bytes) passed).cells-few) in

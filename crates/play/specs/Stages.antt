@@ -1,12 +1,11 @@
 -- Where the player stands between two lines: which lines of the text are left, what holds there, and what asking for a line gives.
 -- Rests on the text.
-use Rattle.std.specs.Prelude.{ℕ, ◌+◌, ◌-◌, ◌*◌, ◌≤◌, ◌≡◌, refl, List, [], ◌∷◌, length, take, drop}
+use Rattle.std.specs.Prelude.{ℕ, ◌+◌, ◌-◌, ◌*◌, ◌≤◌, ◌≡◌, refl, List, [], ◌∷◌, length, take, drop, Option, Some, None}
 use Rattle.play.specs.Text.{played, length_at, sheet_in, instants_due, instants_text, bytes_text, play_text}
 use Rattle.play.specs.declared.Progress.{Progress}
 use Rattle.play.specs.declared.Stage.{Stage}
 use Rattle.play.specs.declared.Stage.TheVariants.{Begin, Playing, Over}
-use Rattle.play.specs.declared.Next.{Next}
-use Rattle.play.specs.declared.Next.TheVariants.{End, Line}
+use Rattle.play.specs.declared.Line.{Line}
 
 -- the progress before the first instant: by the counts of the sheet, the place of its rows and their bytes
 abbrev pub first_instant : (inputs outputs cells at rows : ℕ) → Progress
@@ -54,21 +53,21 @@ module _ (bytes : List ℕ) where
   Between Over = Unit {0}
 
   -- the lines that an answer stands for: the one in the buffer, and those left behind it
-  abbrev pub lines_by : Next → (text memory : List ℕ) → List (List ℕ)
-  lines_by End text memory = []
-  lines_by (Line size stage) text memory = take size text ∷ lines_left stage memory
+  abbrev pub lines_by : Option Line → (text memory : List ℕ) → List (List ℕ)
+  lines_by None text memory = []
+  lines_by (Some line) text memory = take line.size text ∷ lines_left line.stage memory
 
 -- the bytes of the line that is given, and where the player then stands
-abbrev pub size_by : Next → ℕ
-size_by End = 0
-size_by (Line size stage) = size
+abbrev pub size_by : Option Line → ℕ
+size_by None = 0
+size_by (Some line) = line.size
 
-abbrev pub stage_by : Next → Stage
-stage_by End = Over
-stage_by (Line size stage) = stage
+abbrev pub stage_by : Option Line → Stage
+stage_by None = Over
+stage_by (Some line) = line.stage
 
 -- what asking for a line gives, where these lines were left: the first of them, if there is one, at the start of the buffer
-pub record Gives (bytes : List ℕ) (left : List (List ℕ)) (before : List ℕ) (answer : Next) (text memory : List ℕ) : Type 0 where
+pub record Gives (bytes : List ℕ) (left : List (List ℕ)) (before : List ℕ) (answer : Option Line) (text memory : List ℕ) : Type 0 where
   pub lines : left ≡ lines_by bytes answer text memory
   pub behind : drop (size_by answer) text ≡ drop (size_by answer) before
   pub within : size_by answer ≤ length text

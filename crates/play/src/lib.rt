@@ -2,7 +2,7 @@
 // Rests on `sheet_check`, `sheet_start` and `in_rounds` for the calls, and on `lines` for the lines.
 #![tactic(auto)]
 
-ghost use Rattle.std.specs.Prelude.{◌≡◌, ◌+◌, ◌*◌, ◌≤◌, ◌<◌, min, length};
+ghost use Rattle.std.specs.Prelude.{◌≡◌, ◌+◌, ◌*◌, ◌≤◌, ◌<◌, Some, length};
 ghost use Rattle.sheet.specs.Outcomes.{number_of};
 ghost use Rattle.sheet.specs.Sheets.{check_of};
 ghost use Rattle.lines.specs.Buffers.{Holds};
@@ -34,37 +34,35 @@ pub struct Progress {
     pub at: usize,
 }
 
-// What asking for the next line answers.
+// A line that is given: how many bytes it has, and where the player then stands.
 #[derive(Clone, Copy)]
-pub enum Next {
-    End,
-    Line { size: usize, stage: Stage },
+pub struct Line {
+    pub size: usize,
+    pub stage: Stage,
 }
 
-// Gives the next line of the text of an input: its bytes at the start of `text`, and where the player then stands.
-pub fn next_line(input: &[u8], stage: Stage, memory: &mut [u8; 320], text: &mut [u8; 256]) -> Next
+// Gives the next line of the text of an input, if one is left, with its bytes at the start of `text`.
+pub fn next_line(
+    input: &[u8],
+    stage: Stage,
+    memory: &mut [u8; 320],
+    text: &mut [u8; 256],
+) -> Option<Line>
     requires { Between (played input.now) stage }
     ensures { Gives (played input.now) (lines_left (played input.now) stage memory.old)
         text.old result text.new memory.new }
 {
-    let count = least(65536, input.len());
+    let count = input.len().min(65536);
     let bytes = &input[..count];
     match stage {
         Stage::Begin => first_line(bytes, memory, text),
         Stage::Playing(progress) => instant_line(bytes, progress, memory, text),
-        Stage::Over => Next::End,
+        Stage::Over => None,
     }
 }
 
-// The lesser of two numbers.
-fn least(a: usize, b: usize) -> usize
-    ensures { result ≡ min a b }
-{
-    if a < b { a } else { b }
-}
-
 // Gives the first line: `short`, or the sheet's.
-fn first_line(bytes: &[u8], memory: &mut [u8], text: &mut [u8]) -> Next
+fn first_line(bytes: &[u8], memory: &mut [u8], text: &mut [u8]) -> Option<Line>
     requires { Room bytes.now memory.old text.old }
     ensures { Gives bytes.now (bytes_text bytes.now)
         text.old result text.new memory.new }
@@ -76,23 +74,20 @@ fn first_line(bytes: &[u8], memory: &mut [u8], text: &mut [u8]) -> Next
 }
 
 // A line behind which none is left.
-fn final_line(size: usize) -> Next
-    ensures { result ≡ Next.Line size Stage.Over }
+fn final_line(size: usize) -> Option<Line>
+    ensures { result ≡ Some (record { size = size; stage = Stage.Over }) }
 {
-    Next::Line {
+    Some(Line {
         size,
         stage: Stage::Over,
-    }
+    })
 }
 
 // Whether the two length bytes and the sheet are complete.
 fn complete(bytes: &[u8]) -> bool
     ensures { result ≡ is_complete bytes.now }
 {
-    if bytes.len() < 2 {
-        return false;
-    }
-    2 + sheet_length(bytes) <= bytes.len()
+    bytes.len() >= 2 && 2 + sheet_length(bytes) <= bytes.len()
 }
 
 // The sheet's length: two bytes, low first.
@@ -101,11 +96,11 @@ fn sheet_length(bytes: &[u8]) -> usize
     ensures value { result ≡ length_at bytes.now }
     ensures upper_bound { result ≤ 65535 }
 {
-    numbers::length_of(bytes[0]) + 256 * numbers::length_of(bytes[1])
+    u16::from_le_bytes([bytes[0], bytes[1]]) as usize
 }
 
 // Gives the line of a complete sheet: its refusal, or its counts, where its memory is started and its instants are due.
-fn sheet_line(bytes: &[u8], memory: &mut [u8], text: &mut [u8]) -> Next
+fn sheet_line(bytes: &[u8], memory: &mut [u8], text: &mut [u8]) -> Option<Line>
     requires room { Room bytes.now memory.old text.old }
     requires bytes_in_bounds { 2 + length_at bytes.now ≤ length bytes.now }
     ensures { Gives bytes.now
@@ -133,10 +128,10 @@ fn sheet_line(bytes: &[u8], memory: &mut [u8], text: &mut [u8]) -> Next
                 at,
                 bytes.len() - at,
             );
-            Next::Line {
+            Some(Line {
                 size,
                 stage: Stage::Playing(progress),
-            }
+            })
         }
     }
 }
@@ -173,7 +168,12 @@ fn refused_line(text: &mut [u8], why: Refusal, place: usize) -> usize
 }
 
 // Gives the line of the next instant, or of the bytes not used where none is due.
-fn instant_line(bytes: &[u8], progress: Progress, memory: &mut [u8], text: &mut [u8]) -> Next
+fn instant_line(
+    bytes: &[u8],
+    progress: Progress,
+    memory: &mut [u8],
+    text: &mut [u8],
+) -> Option<Line>
     requires room { Room bytes.now memory.old text.old }
     requires ready { Ready bytes.now progress }
     ensures { Gives bytes.now (lines_left bytes.now (Stage.Playing progress) memory.old)
@@ -186,7 +186,7 @@ fn instant_line(bytes: &[u8], progress: Progress, memory: &mut [u8], text: &mut 
 }
 
 // Gives the line of an instant that is due: its refusal, or its number and its outputs.
-fn row_line(bytes: &[u8], progress: Progress, memory: &mut [u8], text: &mut [u8]) -> Next
+fn row_line(bytes: &[u8], progress: Progress, memory: &mut [u8], text: &mut [u8]) -> Option<Line>
     requires room { Room bytes.now memory.old text.old }
     requires ready { Ready bytes.now progress × (0 < progress.due) }
     ensures { Gives bytes.now (lines_left bytes.now (Stage.Playing progress) memory.old)
@@ -208,10 +208,10 @@ fn row_line(bytes: &[u8], progress: Progress, memory: &mut [u8], text: &mut [u8]
         InRounds::Accepted { rounds: _ } => {
             let size = lines::row_line(text, progress.turn, &output[..row_size]);
             let progress = next_instant(progress);
-            Next::Line {
+            Some(Line {
                 size,
                 stage: Stage::Playing(progress),
-            }
+            })
         }
     }
 }
@@ -222,11 +222,9 @@ fn next_instant(progress: Progress) -> Progress
     ensures { result ≡ next_instant progress }
 {
     Progress {
-        input: progress.input,
-        output: progress.output,
-        memory: progress.memory,
         turn: progress.turn + 1,
         due: progress.due - 1,
         at: progress.at + progress.input,
+        ..progress
     }
 }

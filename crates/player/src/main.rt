@@ -4,7 +4,7 @@
 
 ghost use Rattle.std.specs.Io.{ReadsAtMost};
 
-use play::{Next, Stage};
+use play::Stage;
 use std::io;
 use std::io::Read;
 
@@ -35,12 +35,9 @@ fn print(rt: &impl Print, input: &[u8]) -> io::Result<()> {
     let mut memory = [0u8; 320];
     let mut text = [0u8; 256];
     let mut stage = Stage::Begin;
-    loop {
-        let answer = play::next_line(input, stage, &mut memory, &mut text);
-        let Next::Line { size, stage: next } = answer else {
-            return Ok(());
-        };
-        rt.write_all(&text[..size])?;
-        stage = next;
+    while let Some(line) = play::next_line(input, stage, &mut memory, &mut text) {
+        rt.write_all(&text[..line.size])?;
+        stage = line.stage;
     }
+    Ok(())
 }

@@ -4,8 +4,8 @@ use Rattle.play.specs.Text.{played}
 use Rattle.play.specs.Stages.{lines_left, Between}
 use Rattle.player.proofs.print.Given as goal
 
-abbrev pub invariant-loop-size : goal.invariant-loop-size
-invariant-loop-size g l = Between (played l.input) l.stage
+abbrev pub invariant-loop-line : goal.invariant-loop-line
+invariant-loop-line g l = Between (played l.input) l.stage
 
-abbrev pub decreases-loop-size : goal.decreases-loop-size
-decreases-loop-size g l = length (lines_left (played l.input) l.stage l.memory)
+abbrev pub decreases-loop-line : goal.decreases-loop-line
+decreases-loop-line g l = length (lines_left (played l.input) l.stage l.memory)

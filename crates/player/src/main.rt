@@ -16,6 +16,7 @@ fn main(rt: HostRuntime) -> io::Result<()> {
 }
 
 // Reads until the buffer is full or the input ends, and gives how many bytes it put at the start of the buffer.
+// It goes on by what each read gives: the library's `read_exact` does not say how much came before the input's end.
 fn read_full(input: &mut impl Read, buffer: &mut [u8]) -> io::Result<usize>
     ensures { ReadsAtMost result buffer.new }
 {

@@ -31,7 +31,7 @@ pub fn value_of_wire(basis: &Basis, byte: u8, here: Place) -> Value
         basis.now.known.bits 16 (plain_byte byte) here.at here.cell)
         → result ≡ whole_value p false }
 {
-    match value::value_expression(basis, 16, here, false) {
+    match value::value_whole(basis, here) {
         Some(v) => Value::Known(data::datum_of(data::plain(byte), v.word)),
         None => Value::Unknown,
     }

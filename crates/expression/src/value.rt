@@ -1,7 +1,7 @@
 // The value of an expression, if it is known. An operand that is unknown ends it.
 // Rests on `operations` for what a kind does with its operands, on `leaf`, `lasts` and `cells` of `leaves`, on `sheet` for the table of kinds,
 // and on `sheet_walk` for the walk past an operand.
-ghost use Rattle.std.specs.Prelude.{◌≡◌, ◌≤◌, ◌<◌};
+ghost use Rattle.std.specs.Prelude.{◌≡◌, false, ◌≤◌, ◌<◌};
 ghost use Rattle.expression.specs.Places.{Placed, YieldsAt, kind_at};
 
 use crate::Basis;
@@ -20,6 +20,19 @@ pub fn value_expression(basis: &Basis, level: usize, here: Place, fresh: bool) -
         return leaf::value_leaf(basis.sheet, basis.known, basis.words, here);
     }
     value_by_kind(basis, level, here, fresh)
+}
+
+// The value of a whole wire's expression, which is not fresh. A leaf, as each wire of a chain is, takes no call; what is lent is copied
+// behind that test, so that it stands in memory for the others alone.
+pub(crate) fn value_whole(basis: &Basis, here: Place) -> Option<Valued>
+    requires { Placed basis.now 16 here }
+    ensures { YieldsAt basis.now 16 here false result }
+{
+    if Kind::of(basis.sheet[here.at]).is_leaf() {
+        return leaf::value_leaf(basis.sheet, basis.known, basis.words, here);
+    }
+    let lent = *basis;
+    value_by_kind(&lent, 16, here, false)
 }
 
 // The value of an operation on one operand, kinds 4 and 5.

@@ -3,17 +3,18 @@ use Prim.Native.Nat.{ℕ, ◌*◌, ◌<◌}
 use mathlib.Core.Path.{◌≡◌, refl, ap, ◌∙◌}
 use mathlib.Core.Bool.{Bool, true, false, cond}
 use mathlib.Core.List.{List, map}
+use Rattle.std.specs.Prelude.{Ok, Err}
 use lib.Dec.{eqb}
 use lib.ListN.{length, take}
 use Rattle.sheet.specs.Data.{type_of_byte}
-use Rattle.sheet.specs.Outcomes.{Outcome, refusal, result, followed_by}
+use Rattle.sheet.specs.Outcomes.{Outcome, refusal, result, followed_by, refused_at}
 use Rattle.sheet.specs.Sheets.{Sheet, sheet_forms}
 use Rattle.sheet.specs.Memory.{memory_of}
 use Rattle.sheet.specs.Rows.{inputs_of}
-use Rattle.sheet.specs.Laws.Lists.{never}
 use Rattle.sheet.specs.declared.Cell.{Cell}
 use Rattle.sheet.specs.declared.Datum.{Datum}
 use Rattle.sheet.specs.declared.Refusal.{Refusal}
+use Rattle.sheet.specs.declared.Refused.{Refused}
 use Rattle.sheet.specs.declared.Refusal.TheVariants.{OutputLength}
 use Rattle.buffers.specs.Laws.{held_forms}
 use Rattle.buffers.specs.Tests.{tested_of, and_tested, buffers_tested, Formed}
@@ -24,44 +25,28 @@ use Rattle.board.specs.Parts.{joined, inputs_in, outputs_in, passed_of}
 use Rattle.board_check.specs.Found.{behind, Between, Finds, refuses, finds}
 use Rattle.board_check.specs.Steps.{Collected, Fits, Walks, refuses as stays, passes}
 use Rattle.board_check.specs.declared.Begin.{Begin}
-use Rattle.board_check.specs.declared.Found.TheVariants.{Refused as Dismissed, Passed as Located}
 use Rattle.board_check.specs.declared.Walked.{Walked}
-use Rattle.board_check.specs.declared.Walked.TheVariants.{Refused, Passed}
 
 -- what the answer of the walk tells
-pub record Through (board : List ℕ) (wanted : ℕ) (from to end : Begin) (forms types : List ℕ) (o : Outcome (List Sheet)) : Type 0 where
+pub record Through (board : List ℕ) (wanted : ℕ) (walked : Walked) (forms types : List ℕ) (o : Outcome (List Sheet)) : Type 0 where
   pub sheets : List Sheet
   pub outcome : o ≡ result sheets
-  pub located : wanted < length sheets → Between board sheets wanted from to
-  pub place : end ≡ behind (length_place board (length sheets)) sheets
-  pub fits : Fits end
+  pub located : wanted < length sheets → Between board sheets wanted walked.span
+  pub place : walked.end ≡ behind (length_place board (length sheets)) sheets
+  pub fits : Fits walked.end
   pub collected : Collected sheets forms types
 
 module _ {board : List ℕ} {wanted : ℕ} {forms types : List ℕ} where
-  pub walk_refused : {o : Outcome (List Sheet)} {r : Walked} {why : Refusal} {place : ℕ} → Walks board wanted forms types o r
-      → r ≡ Refused why place → o ≡ refusal why place
-  walk_refused stays e = cc
-  walk_refused (passes located place fits collected) e = never (cc)
+  pub walk_refused : {o : Outcome (List Sheet)} {refused : Refused} → Walks board wanted forms types o (Err refused) → o ≡ refusal refused.why refused.place
+  walk_refused stays = refl
 
-  pub walk_through : {o : Outcome (List Sheet)} {r : Walked} {from to end : Begin} → Walks board wanted forms types o r
-      → r ≡ Passed from to end → Through board wanted from to end forms types o
-  walk_through stays e = never (cc)
-  walk_through {from = from} {to} {end} (passes {sheets} {from = from'} {to = to'} {end = end'} located place fits collected) e =
-      let f : from' ≡ from = cc in
-      let t : to' ≡ to = cc in
-      let n : end' ≡ end = cc in
-      record {
-        sheets = sheets;
-        outcome = refl;
-        located = rw (f, t) at located;
-        place = rw n at place;
-        fits = rw n at fits;
-        collected = collected;
-      }
+  pub walk_through : {o : Outcome (List Sheet)} {walked : Walked} → Walks board wanted forms types o (Ok walked) → Through board wanted walked forms types o
+  walk_through (passes {sheets} located place fits collected) =
+      record { sheets = sheets; outcome = refl; located = located; place = place; fits = fits; collected = collected }
 
   -- the entries of all cells hold their forms
-  pub all_formed : {o : Outcome (List Sheet)} {from to end : Begin} (p : Through board wanted from to end forms types o)
-      → Formed (joined sheet_forms p.sheets) forms end.cells
+  pub all_formed : {o : Outcome (List Sheet)} {walked : Walked} (p : Through board wanted walked forms types o)
+      → Formed (joined sheet_forms p.sheets) forms walked.end.cells
   all_formed p = rw (ap (λ (b : Begin). b.cells) p.place) (held_forms refl p.collected.cells)
 
 -- the outcome by the tests of the buffers, once 1 to 11 are passed
@@ -73,14 +58,14 @@ module _ (board memory input output : List ℕ) {n : ℕ} (frame : frame_of boar
   abbrev whole : Outcome (List Sheet)
   whole = passed_of board memory input output
 
-  pub finds-refusal : {why : Refusal} {place : ℕ} → sheets_from board n 0 ≡ refusal why place
-      → Finds board wanted whole (Dismissed why place)
+  pub finds-refusal : {refused : Refused} → sheets_from board n 0 ≡ refusal refused.why refused.place
+      → Finds board wanted whole (Err refused)
   unfolding passed_of board_of
   finds-refusal e = rw (frame, e) refuses
 
-  module _ {from to end : Begin} {forms types : List ℕ} (p : Through board wanted from to end forms types (sheets_from board n 0)) where
+  module _ {walked : Walked} {forms types : List ℕ} (p : Through board wanted walked forms types (sheets_from board n 0)) where
     abbrev tests : Tested
-    tests = buffers_tested (joined sheet_forms p.sheets) (map type_of_byte (take end.inputs types)) end.outputs memory input output
+    tests = buffers_tested (joined sheet_forms p.sheets) (map type_of_byte (take walked.end.inputs types)) walked.end.outputs memory input output
 
     by_tests_lem : whole ≡ by_tests p.sheets tests
     unfolding passed_of board_of
@@ -97,8 +82,8 @@ module _ (board memory input output : List ℕ) {n : ℕ} (frame : frame_of boar
         go (result c) (result d) true = refl
         go (result c) (result d) false = refl
 
-    pub finds_unfit : {why : Refusal} {place : ℕ} → tests ≡ Unfit why place → Finds board wanted whole (Dismissed why place)
+    pub finds_unfit : {why : Refusal} {place : ℕ} → tests ≡ Unfit why place → Finds board wanted whole (refused_at why place)
     finds_unfit e = rw (by_tests_lem ∙ ap (by_tests p.sheets) e) refuses
 
-    pub finds-all : tests ≡ Fine → Finds board wanted whole (Located from to)
+    pub finds-all : tests ≡ Fine → Finds board wanted whole (Ok walked.span)
     finds-all e = rw (by_tests_lem ∙ ap (by_tests p.sheets) e) (finds p.located)

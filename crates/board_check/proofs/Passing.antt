@@ -21,14 +21,14 @@ pub held-there : {R : CellForm → ℕ → Type 0} {fs : List CellForm} (entries
 held-there entries m sized held = omega (arith, simp length-take at (pairwise-length held))
 
 -- the parts of a sheet more are put behind the others
-module _ (sheets : List Sheet) (sheet : Sheet) (forms types entries bytes : List ℕ) (m : ℕ) where
-  pub collected_more : Collected sheets forms types → length (sheet_forms sheet) ≡ m → Pairwise Holds (sheet_forms sheet) (take m entries)
-      → map type_of_byte bytes ≡ sheet.input_types → length (joined sheet_forms sheets) + m ≤ 512
+module _ (sheets : List Sheet) (sheet : Sheet) (forms types entries bytes : List ℕ) where
+  pub collected_more : Collected sheets forms types → Pairwise Holds (sheet_forms sheet) entries
+      → map type_of_byte bytes ≡ sheet.input_types → length (joined sheet_forms sheets) + length entries ≤ 512
       → length (joined inputs_in sheets) + length bytes ≤ 128
-      → Collected (sheets ++ sheet ∷ []) (paste forms (length (joined sheet_forms sheets)) entries m)
+      → Collected (sheets ++ sheet ∷ []) (paste forms (length (joined sheet_forms sheets)) entries (length entries))
       (paste types (length (joined inputs_in sheets)) bytes (length bytes))
-  collected_more c sized held typed room wide =
-      let there : m ≤ length entries = held-there entries m sized held in
+  collected_more c held typed room wide =
+      let m = length entries in
       let size : length sheet.input_types ≡ length bytes = sym (ap length typed) ∙ length-map bytes type_of_byte in
       let k = length (joined sheet_forms sheets) in
       let n = length (joined inputs_in sheets) in
@@ -36,12 +36,12 @@ module _ (sheets : List Sheet) (sheet : Sheet) (forms types entries bytes : List
       let fits : n + length bytes ≤ length types = omega (arith, c.types-sized) in
       record {
         cells =
-            rw (joined-more sheet_forms sheets sheet, length-append, sized, take-paste forms k entries m (omega arith) there)
-            (pairwise_append c.cells held);
+            rw (joined-more sheet_forms sheets sheet, length-append, pairwise-length held)
+            (rw (take-paste forms k entries m (omega arith) (omega arith), take-length entries) (pairwise_append c.cells held));
         inputs =
             rw (joined-more inputs_in sheets sheet, length-append, size)
             (rw (take-paste types n bytes (length bytes) (omega arith) (omega arith), take-length bytes)
             (map-append type_of_byte (take n types) bytes ∙ rw (c.inputs, typed)));
-        forms_sized = length-paste forms k entries m formed there ∙ c.forms_sized;
+        forms_sized = length-paste forms k entries m formed (omega arith) ∙ c.forms_sized;
         types-sized = length-paste types n bytes (length bytes) fits (omega arith) ∙ c.types-sized;
       }

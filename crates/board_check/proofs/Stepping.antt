@@ -2,9 +2,11 @@
 use Prim.Native.Nat.{ℕ, suc, ◌+◌, ◌-◌, ◌≤◌}
 use mathlib.Core.Path.{◌≡◌, ap}
 use mathlib.Core.List.{List, [], ◌∷◌, ◌++◌}
+use Rattle.std.specs.Prelude.{Ok}
 use native.Mathlib.Omega.{arith}
 use lib.ListN.{length, take, drop, length-take, length-drop}
 use lib.Seq.{paste}
+use Rattle.sheet.specs.Outcomes.{refused_at}
 use Rattle.sheet.specs.Sheets.{Sheet, sheet_forms, sheet_of, check_of}
 use Rattle.sheet.specs.Typing.{Pairwise}
 use Rattle.sheet.proofs.Laws.Checked.{check_refused, CheckPassed}
@@ -18,7 +20,6 @@ use Rattle.board.proofs.Laws.Parts.{joined-count}
 use Rattle.board_check.specs.Found.{behind}
 use Rattle.board_check.specs.Steps.{further_of, Collected, Room, Further, Steps, stops, goes}
 use Rattle.board_check.specs.declared.Begin.{Begin}
-use Rattle.board_check.specs.declared.Step.TheVariants.{Refused as Stopped, Next}
 use Rattle.board_check.proofs.Passing.{collected_more}
 use Rattle.sheet.specs.Outcomes.{refused_at}
 
@@ -45,18 +46,22 @@ module _ (board : List ℕ) (here : Begin) (long : ℕ) (is : long ≡ length_at
     same_bytes_lem = let all : here.at + 2 + long - (here.at + 2) ≡ long = omega arith in rw (all, is, at-is)
 
     pub step-stops : (forms types : List ℕ) {why : Refusal} {at : ℕ} → check_of bytes ≡ refused_at why at
-        → Steps board k here done forms types (placed_from (begin_of board k) (sheet_of (bytes_of board k))) (Stopped why (here.at + 2 + at))
+        → Steps board k here done forms types (placed_from (begin_of board k) (sheet_of (bytes_of board k))) (refused_at why (here.at + 2 + at))
     step-stops forms types e = rw (← same_bytes_lem, check_refused bytes e, at-is) stops
 
     -- a sheet that passes, with the entries of its cells
     module _ (forms types entries : List ℕ) (room : Room board here forms types) {i w o m : ℕ}
         (p : CheckPassed bytes i w o m) (noted : Pairwise (CellNoted bytes) (sheet_forms p.sheet) (take m entries)) where
+      abbrev own_entries : List ℕ
+      own_entries = take m entries
+
       abbrev type_bytes : List ℕ
       type_bytes = take (1 + i - 1) (drop 1 bytes)
 
       pub step-goes : Collected done forms types
-          → Steps board k here done (paste forms here.cells entries m) (paste types here.inputs type_bytes (length type_bytes))
-          (placed_from (begin_of board k) (sheet_of (bytes_of board k))) (Next (further_of here (here.at + 2 + long) m i o))
+          → Steps board k here done (paste forms here.cells own_entries (length own_entries))
+          (paste types here.inputs type_bytes (length type_bytes))
+          (placed_from (begin_of board k) (sheet_of (bytes_of board k))) (Ok (further_of here (here.at + 2 + long) m i o))
       unfolding length_place
       step-goes c =
           let cells : here.cells ≡ length (joined sheet_forms done) = ap (λ (b : Begin). b.cells) place in
@@ -83,6 +88,7 @@ module _ (board : List ℕ) (here : Begin) (long : ℕ) (is : long ≡ length_at
             outputs = omega (arith, p.few-outputs);
           } in
           let sized : length type_bytes ≤ i = simp (length-take) (omega arith) in
-          let all = collected_more done p.sheet forms types entries type_bytes m c p.cells_are (noted-hold noted) p.types
-          (omega (arith, room.cells, p.few-cells)) (omega (arith, room.inputs, p.few-inputs, sized)) in
+          let formed : length own_entries ≤ m = simp (length-take) (omega arith) in
+          let all = collected_more done p.sheet forms types own_entries type_bytes c (noted-hold noted) p.types
+          (omega (arith, room.cells, p.few-cells, formed)) (omega (arith, room.inputs, p.few-inputs, sized)) in
           rw (← same_bytes_lem, p.outcome) (goes next further (rw (cells, inputs) all))

@@ -2,6 +2,7 @@
 use Prim.Native.Nat.{ℕ, suc, ◌+◌, ◌*◌, ◌-◌, ◌≤◌, ◌<◌}
 use mathlib.Core.Path.{◌≡◌, refl, sym, ap, ◌∙◌}
 use mathlib.Core.List.{List, [], ◌∷◌, ◌++◌, append-nil, append_assoc}
+use Rattle.std.specs.Prelude.{Ok, Err}
 use native.Mathlib.Numerals.{add-one}
 use native.Mathlib.Omega.{arith}
 use lib.ListN.{length, length-append}
@@ -9,17 +10,14 @@ use lib.Seq.{take-append-le, take_at, take_all}
 use Rattle.sheet.specs.Outcomes.{Outcome, refusal, result, followed_by}
 use Rattle.sheet.specs.Sheets.{Sheet, sheet_of}
 use Rattle.sheet.specs.Typing.{done}
-use Rattle.sheet.specs.Laws.Lists.{never}
-use Rattle.sheet.specs.declared.Refusal.{Refusal}
+use Rattle.sheet.specs.declared.Refused.{Refused}
 use Rattle.board.specs.Boards.{placed_from, length_place, begin_of, bytes_of, frame_of, sheets_from}
 use Rattle.board.specs.Parts.{joined}
 use Rattle.board.proofs.Laws.Boards.{frame-passed}
 use Rattle.board_check.specs.Found.{behind, Between}
 use Rattle.board_check.specs.Steps.{Collected, Room, Further, Steps, stops, goes, Walks, passes}
 use Rattle.board_check.specs.declared.Begin.{Begin}
-use Rattle.board_check.specs.declared.Step.{Step}
-use Rattle.board_check.specs.declared.Step.TheVariants.{Refused as Stopped, Next}
-use Rattle.board_check.specs.declared.Walked.TheVariants.{Passed}
+use Rattle.board_check.specs.declared.Span.{Span}
 
 -- what the answer for a sheet tells
 pub record Went (board : List ℕ) (k : ℕ) (here next : Begin) (before : List Sheet) (forms types : List ℕ) (o : Outcome Sheet) : Type 0 where
@@ -30,20 +28,15 @@ pub record Went (board : List ℕ) (k : ℕ) (here next : Begin) (before : List 
   pub collected : Collected (before ++ sheet ∷ []) forms types
 
 module _ {board : List ℕ} {k : ℕ} {here : Begin} {before : List Sheet} {forms types : List ℕ} where
-  pub stopped : {o : Outcome Sheet} {r : Step} {why : Refusal} {place : ℕ} → Steps board k here before forms types o r
-      → r ≡ Stopped why place → o ≡ refusal why place
-  stopped stops e = cc
-  stopped (goes place further collected) e = never (cc)
+  pub stopped : {o : Outcome Sheet} {refused : Refused} → Steps board k here before forms types o (Err refused) → o ≡ refusal refused.why refused.place
+  stopped stops = refl
 
-  pub went : {o : Outcome Sheet} {r : Step} {next : Begin} → Steps board k here before forms types o r → r ≡ Next next
-      → Went board k here next before forms types o
-  went stops e = never (cc)
-  went {next = next} (goes {sheet} {next = there} place further collected) e =
-      let same : there ≡ next = cc in
-      record { sheet = sheet; outcome = refl; place = rw same at place; further = rw same at further; collected = collected }
+  pub went : {o : Outcome Sheet} {next : Begin} → Steps board k here before forms types o (Ok next) → Went board k here next before forms types o
+  went (goes {sheet} place further collected) =
+      record { sheet = sheet; outcome = refl; place = place; further = further; collected = collected }
 
 -- k sheets are read, and those from number k on are what is left of all
-pub record Walking (board : List ℕ) (n wanted k : ℕ) (here from to : Begin) (forms types : List ℕ) : Type 0 where
+pub record Walking (board : List ℕ) (n wanted k : ℕ) (here : Begin) (span : Span) (forms types : List ℕ) : Type 0 where
   pub read : List Sheet
   pub counted : length read ≡ k
   pub most : k ≤ n
@@ -53,16 +46,16 @@ pub record Walking (board : List ℕ) (n wanted k : ℕ) (here from to : Begin) 
   pub outputs : here.outputs ≤ 16 * k
   pub collected : Collected read forms types
   pub rest : (m : ℕ) → k + m ≡ n → followed_by (sheets_from board m k) (λ later. result (read ++ later)) ≡ sheets_from board n 0
-  pub located : wanted < k → Between board read wanted from to
+  pub located : wanted < k → Between board read wanted span
 
 module _ (board : List ℕ) (n wanted : ℕ) where
   abbrev first : Begin
   first = record { at = 1; cells = 0; inputs = 0; outputs = 0 }
 
-  pub walk-starts : (from to : Begin) (forms types : List ℕ) → length forms ≡ 512 → length types ≡ 128
-      → Walking board n wanted 0 first from to forms types
+  pub walk-starts : (span : Span) (forms types : List ℕ) → length forms ≡ 512 → length types ≡ 128
+      → Walking board n wanted 0 first span forms types
   unfolding length_place joined
-  walk-starts from to forms types f t =
+  walk-starts span forms types f t =
       record {
         read = [];
         counted = refl;
@@ -80,7 +73,7 @@ module _ (board : List ℕ) (n wanted : ℕ) where
       whole (refusal why place) = refl
       whole (result sheets) = refl
 
-  module _ {k : ℕ} {here from to : Begin} {forms types : List ℕ} (w : Walking board n wanted k here from to forms types) where
+  module _ {k : ℕ} {here : Begin} {span : Span} {forms types : List ℕ} (w : Walking board n wanted k here span forms types) where
     pub walk-room : frame_of board ≡ result n → k < n → Room board here forms types
     unfolding length_place
     walk-room e l =
@@ -105,7 +98,7 @@ module _ (board : List ℕ) (n wanted : ℕ) where
     unfolding sheets_from
     next-is m e = w.rest (suc m) (omega arith)
 
-    pub walk-stops : k < n → {why : Refusal} {place : ℕ} → o ≡ refusal why place → sheets_from board n 0 ≡ refusal why place
+    pub walk-stops : k < n → {refused : Refused} → o ≡ refusal refused.why refused.place → sheets_from board n 0 ≡ refusal refused.why refused.place
     walk-stops l e = sym (next-is (n - suc k) (omega arith)) ∙ rw e
 
     -- the sheet is read, and it is the wanted one or not
@@ -113,9 +106,9 @@ module _ (board : List ℕ) (n wanted : ℕ) where
       abbrev more : List Sheet
       more = w.read ++ s.sheet ∷ []
 
-      walk-goes : (from' to' : Begin) → (wanted < suc k → Between board more wanted from' to')
-          → Walking board n wanted (k + 1) next from' to' forms' types'
-      walk-goes from' to' found =
+      walk-goes : (span' : Span) → (wanted < suc k → Between board more wanted span')
+          → Walking board n wanted (k + 1) next span' forms' types'
+      walk-goes span' found =
           rw (add-one k)
           (record {
             read = more;
@@ -135,17 +128,17 @@ module _ (board : List ℕ) (n wanted : ℕ) where
           shift (refusal why place) = refl
           shift (result later) = ap result (append_assoc w.read (s.sheet ∷ []) later)
 
-      pub walk-takes : k ≡ wanted → Walking board n wanted (k + 1) next here next forms' types'
+      pub walk-takes : k ≡ wanted → Walking board n wanted (k + 1) next (record { from = here; to = next }) forms' types'
       walk-takes is =
           let sized : length more ≡ suc k = simp length-append (omega (arith, w.counted)) in
-          walk-goes here next (λ m. record {
+          walk-goes (record { from = here; to = next }) (λ m. record {
             begins = rw (← is, take_at w.read (s.sheet ∷ []) k w.counted) w.place;
             ends = rw (← is, take_all (suc k) more (omega arith)) s.place;
           })
 
-      pub walk-passes : (k ≡ wanted → ⊥) → Walking board n wanted (k + 1) next from to forms' types'
+      pub walk-passes : (k ≡ wanted → ⊥) → Walking board n wanted (k + 1) next span forms' types'
       walk-passes other =
-          walk-goes from to (λ m.
+          walk-goes span (λ m.
           let below : wanted < k = omega arith in
           let found = w.located below in
           record {
@@ -153,14 +146,14 @@ module _ (board : List ℕ) (n wanted : ℕ) where
             ends = rw (take-append-le (suc wanted) w.read (s.sheet ∷ []) (omega (arith, w.counted))) found.ends;
           })
 
-    pub walk_ends : frame_of board ≡ result n → n ≤ k → Walks board wanted forms types (sheets_from board n 0) (Passed from to here)
+    pub walk_ends : frame_of board ≡ result n → n ≤ k → Walks board wanted forms types (sheets_from board n 0) (Ok (record { span = span; end = here }))
     unfolding sheets_from
     walk_ends e l =
         let p = frame-passed board n e in
         let all : k ≡ n = omega (arith, w.most) in
         let read : sheets_from board n 0 ≡ result w.read = sym (w.rest 0 (omega arith)) ∙ ap result (append-nil w.read) in
         rw read
-        (passes {end = here} (λ m. w.located (omega (arith, w.counted))) (rw w.counted w.place)
+        (passes {walked = record { span = span; end = here }} (λ m. w.located (omega (arith, w.counted))) (rw w.counted w.place)
         (record {
           cells = omega (arith, w.cells, p.most);
           inputs = omega (arith, w.inputs, p.most);

@@ -1,19 +1,16 @@
 -- What is known between the sheets of a board: the tables hold the cells' forms and the inputs' types of those that are done.
-use Rattle.std.specs.Prelude.{ℕ, suc, ◌+◌, ◌≤◌, ◌<◌, ◌≡◌, List, [], ◌∷◌, ◌++◌, map, length, take}
+use Rattle.std.specs.Prelude.{ℕ, suc, ◌+◌, ◌≤◌, ◌<◌, ◌≡◌, List, [], ◌∷◌, ◌++◌, Result, Ok, Err, map, length, take}
 use Rattle.sheet.specs.Data.{type_of_byte}
 use Rattle.sheet.specs.Outcomes.{Outcome, refusal, result}
 use Rattle.sheet.specs.Sheets.{Sheet, sheet_forms}
 use Rattle.sheet.specs.Typing.{Pairwise}
-use Rattle.sheet.specs.declared.Refusal.{Refusal}
+use Rattle.sheet.specs.declared.Refused.{Refused}
 use Rattle.buffers.specs.Tests.{Holds}
 use Rattle.board.specs.Boards.{length_at, length_place}
 use Rattle.board.specs.Parts.{joined, inputs_in}
 use Rattle.board_check.specs.Found.{behind, Between}
 use Rattle.board_check.specs.declared.Begin.{Begin}
-use Rattle.board_check.specs.declared.Step.{Step}
-use Rattle.board_check.specs.declared.Step.TheVariants.{Refused as Stopped, Next}
 use Rattle.board_check.specs.declared.Walked.{Walked}
-use Rattle.board_check.specs.declared.Walked.TheVariants.{Refused, Passed}
 
 -- where the next sheet and its parts begin, whose length stands at the place, behind so many cells, inputs and outputs more
 abbrev pub further_of : (here : Begin) (at cells inputs outputs : ℕ) → Begin
@@ -43,10 +40,11 @@ pub record Further (here next : Begin) : Type 0 where
   pub outputs : next.outputs ≤ here.outputs + 16
 
 -- the answer for the sheet with number k, behind those that are done, and what the tables then hold
-pub data Steps (board : List ℕ) (k : ℕ) (here : Begin) (done : List Sheet) (forms types : List ℕ) : Outcome Sheet → Step → Type 0 where
-  stops : {why : Refusal} {place : ℕ} → Steps board k here done forms types (refusal why place) (Stopped why place)
+pub data Steps (board : List ℕ) (k : ℕ) (here : Begin) (done : List Sheet) (forms types : List ℕ)
+    : Outcome Sheet → Result Begin Refused → Type 0 where
+  stops : {refused : Refused} → Steps board k here done forms types (refusal refused.why refused.place) (Err refused)
   goes : {sheet : Sheet} {next : Begin} → next ≡ behind (length_place board (suc k)) (done ++ sheet ∷ []) → Further here next
-      → Collected (done ++ sheet ∷ []) forms types → Steps board k here done forms types (result sheet) (Next next)
+      → Collected (done ++ sheet ∷ []) forms types → Steps board k here done forms types (result sheet) (Ok next)
 
 -- eight sheets have at most so many cells, inputs and outputs
 pub record Fits (end : Begin) : Type 0 where
@@ -55,8 +53,8 @@ pub record Fits (end : Begin) : Type 0 where
   pub outputs : end.outputs ≤ 128
 
 -- the answer for all sheets, and what the tables then hold
-pub data Walks (board : List ℕ) (wanted : ℕ) (forms types : List ℕ) : Outcome (List Sheet) → Walked → Type 0 where
-  refuses : {why : Refusal} {place : ℕ} → Walks board wanted forms types (refusal why place) (Refused why place)
-  passes : {sheets : List Sheet} {from to end : Begin} → (wanted < length sheets → Between board sheets wanted from to)
-      → end ≡ behind (length_place board (length sheets)) sheets → Fits end → Collected sheets forms types
-      → Walks board wanted forms types (result sheets) (Passed from to end)
+pub data Walks (board : List ℕ) (wanted : ℕ) (forms types : List ℕ) : Outcome (List Sheet) → Result Walked Refused → Type 0 where
+  refuses : {refused : Refused} → Walks board wanted forms types (refusal refused.why refused.place) (Err refused)
+  passes : {sheets : List Sheet} {walked : Walked} → (wanted < length sheets → Between board sheets wanted walked.span)
+      → walked.end ≡ behind (length_place board (length sheets)) sheets → Fits walked.end → Collected sheets forms types
+      → Walks board wanted forms types (result sheets) (Ok walked)

@@ -13,7 +13,7 @@ ghost use Rattle.board_check.specs.Found.{behind, Finds};
 ghost use Rattle.board_check.specs.Steps.{further_of, Collected, Room, Steps, Walks};
 
 use buffers::Tested;
-use sheet::Refusal;
+use sheet::Refused;
 use sheet_expressions::map::Map;
 
 // Where a sheet of a board and its parts begin: the place of its length, and how many cells, inputs and outputs the sheets before it have.
@@ -25,26 +25,18 @@ pub struct Begin {
     pub outputs: usize,
 }
 
-// What the checks come to: the first refusal 1 to 16 with its place, or where the wanted sheet and its parts begin, and where they end,
-// which is where those of the next sheet begin.
+// Between which places a sheet and its parts stand: where they begin, and where those of the next sheet do.
 #[derive(Clone, Copy)]
-pub enum Found {
-    Refused { why: Refusal, place: usize },
-    Passed { from: Begin, to: Begin },
+pub struct Span {
+    pub from: Begin,
+    pub to: Begin,
 }
 
-// What the checks of the sheets alone come to: the same, and where the last sheet and its parts end.
+// What is found where all sheets pass: the span of the wanted one, and where the last one and its parts end.
 #[derive(Clone, Copy)]
-enum Walked {
-    Refused { why: Refusal, place: usize },
-    Passed { from: Begin, to: Begin, end: Begin },
-}
-
-// What the check of one sheet comes to: its refusal, or where it and its parts end.
-#[derive(Clone, Copy)]
-enum Step {
-    Refused { why: Refusal, place: usize },
-    Next { next: Begin },
+struct Walked {
+    span: Span,
+    end: Begin,
 }
 
 // 1 to 16 of a board with so many sheets, and where the wanted one and its parts stand.
@@ -55,30 +47,18 @@ pub fn check(
     memory: &[u8],
     input: &[u8],
     output: &[u8],
-) -> Found
+) -> Result<Span, Refused>
     requires { frame_of board.now ≡ outcome_of sheets }
     ensures { Finds board.now wanted (passed_of board.now memory.now input.now output.now) result }
 {
     let mut forms = [0u16; 512];
     let mut types = [0u8; 128];
-    match check_sheets(board, sheets, wanted, &mut forms, &mut types) {
-        Walked::Refused { why, place } => Found::Refused { why, place },
-        Walked::Passed { from, to, end } => {
-            let inputs = end.inputs;
-            let types = &types[..inputs];
-            match buffers::check_buffers(
-                &forms,
-                end.cells,
-                types,
-                end.outputs,
-                memory,
-                input,
-                output,
-            ) {
-                Tested::Refused { why, place } => Found::Refused { why, place },
-                Tested::Fine => Found::Passed { from, to },
-            }
-        }
+    let walked = check_sheets(board, sheets, wanted, &mut forms, &mut types)?;
+    let end = walked.end;
+    let types = &types[..end.inputs];
+    match buffers::check_buffers(&forms, end.cells, types, end.outputs, memory, input, output) {
+        Tested::Refused { why, place } => Err(why.at(place)),
+        Tested::Fine => Ok(walked.span),
     }
 }
 
@@ -89,7 +69,7 @@ fn check_sheets(
     wanted: usize,
     forms: &mut [u16; 512],
     types: &mut [u8; 128],
-) -> Walked
+) -> Result<Walked, Refused>
     requires { (frame_of board.now ≡ outcome_of sheets) × (length forms.old ≡ 512) × (length types.old ≡ 128) }
     ensures { Walks board.now wanted forms.new types.new (sheets_from board.now sheets 0) result }
 {
@@ -99,32 +79,31 @@ fn check_sheets(
         inputs: 0,
         outputs: 0,
     };
-    let mut from = here;
-    let mut to = here;
-    let mut k = 0;
-    while k < sheets {
-        match check_sheet(board, here, forms, types) {
-            Step::Refused { why, place } => return Walked::Refused { why, place },
-            Step::Next { next } => {
-                if k == wanted {
-                    from = here;
-                    to = next;
-                }
-                here = next;
-            }
+    let mut span = Span {
+        from: here,
+        to: here,
+    };
+    for k in 0..sheets {
+        let next = check_sheet(board, here, forms, types)?;
+        if k == wanted {
+            span = Span {
+                from: here,
+                to: next,
+            };
         }
-        k += 1;
+        here = next;
     }
-    Walked::Passed {
-        from,
-        to,
-        end: here,
-    }
+    Ok(Walked { span, end: here })
 }
 
 // 1 to 11 of the sheet that begins here, its place counted in the board. Where they pass, the entries of its cells and the types of its
-// inputs are put behind the others.
-fn check_sheet(board: &[u8], here: Begin, forms: &mut [u16; 512], types: &mut [u8; 128]) -> Step
+// inputs are put behind the others, and the answer is where the next sheet begins.
+fn check_sheet(
+    board: &[u8],
+    here: Begin,
+    forms: &mut [u16; 512],
+    types: &mut [u8; 128],
+) -> Result<Begin, Refused>
     requires { Room board.now here forms.old types.old }
     ensures { (k : ℕ) (done : List Sheet) → here ≡ behind (length_place board.now k) done
         → Collected done forms.old types.old
@@ -137,18 +116,11 @@ fn check_sheet(board: &[u8], here: Begin, forms: &mut [u16; 512], types: &mut [u
     let sheet = &board[begin..end];
     let mut map = Map::empty();
     match sheet_check::check_map(sheet, &mut map) {
-        Err(refused) => {
-            let counted = begin + refused.place;
-            Step::Refused {
-                why: refused.why,
-                place: counted,
-            }
-        }
+        Err(refused) => Err(refused.why.at(begin + refused.place)),
         Ok(counts) => {
-            put_forms(forms, here.cells, &map.cells, counts.cells);
-            put_types(types, here.inputs, &sheet[1..1 + counts.inputs]);
-            let next = further(here, end, counts.cells, counts.inputs, counts.outputs);
-            Step::Next { next }
+            put_behind(forms, here.cells, &map.cells[..counts.cells]);
+            put_behind(types, here.inputs, &sheet[1..1 + counts.inputs]);
+            Ok(further(here, end, counts.cells, counts.inputs, counts.outputs))
         }
     }
 }
@@ -166,26 +138,10 @@ fn further(here: Begin, at: usize, cells: usize, inputs: usize, outputs: usize) 
     }
 }
 
-// Puts the first `count` entries of a map behind the `others` that are there.
-fn put_forms(forms: &mut [u16; 512], others: usize, entries: &[u16; 64], count: usize)
-    requires { (others + count ≤ 512) × (count ≤ 64) × (length forms.old ≡ 512) × (count ≤ length entries.now) }
-    ensures { forms.new ≡ paste forms.old others entries.now count }
+// Puts what a sheet has of one sort behind what the `others` before it have.
+fn put_behind<T: Copy>(list: &mut [T], others: usize, more: &[T])
+    requires { others + length more.now ≤ length list.old }
+    ensures { list.new ≡ paste list.old others more.now (length more.now) }
 {
-    let mut i = 0;
-    while i < count {
-        forms[others + i] = entries[i];
-        i += 1;
-    }
-}
-
-// Puts the type bytes of a sheet's inputs behind the `others` that are there.
-fn put_types(types: &mut [u8; 128], others: usize, bytes: &[u8])
-    requires { (others + length bytes.now ≤ 128) × (length types.old ≡ 128) }
-    ensures { types.new ≡ paste types.old others bytes.now (length bytes.now) }
-{
-    let mut i = 0;
-    while i < bytes.len() {
-        types[others + i] = bytes[i];
-        i += 1;
-    }
+    list[others..others + more.len()].copy_from_slice(more);
 }

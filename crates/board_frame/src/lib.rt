@@ -2,46 +2,39 @@
 #![tactic(auto)]
 
 ghost use Rattle.std.specs.Prelude.{◌≡◌, ◌<◌, ◌≤◌, get_or};
+ghost use Rattle.sheet.specs.Outcomes.{answer_of};
 ghost use Rattle.board.specs.Boards.{count_byte, length_at, frame_of};
-ghost use Rattle.board_frame.specs.Frames.{framed_of};
 
-// What the frame of a board comes to: refusal 22 at a place, or so many sheets.
-#[derive(Clone, Copy)]
-pub enum Framed {
-    Refused { place: usize },
-    Sheets { count: usize },
-}
+use sheet::{Refusal, Refused};
 
 // The frame of any bytes: the count is 1 to 8, each length is there and stays within the board, and nothing follows the last sheet.
-pub fn frame(board: &[u8]) -> Framed
-    ensures { result ≡ framed_of (frame_of board.now) }
+pub fn frame(board: &[u8]) -> Result<usize, Refused>
+    ensures { result ≡ answer_of (frame_of board.now) }
 {
     let count = byte_at(board, 0);
     if count < 1 || 8 < count {
-        return Framed::Refused { place: 0 };
+        return Err(Refusal::BoardFrame.at(0));
     }
     lengths(board, count)
 }
 
 // What the lengths of so many sheets come to: none runs past the end, and nothing follows the last sheet.
-fn lengths(board: &[u8], count: usize) -> Framed
+fn lengths(board: &[u8], count: usize) -> Result<usize, Refused>
     requires { (1 ≤ count) × (count ≤ 8) × (count ≡ count_byte board.now) }
-    ensures { result ≡ framed_of (frame_of board.now) }
+    ensures { result ≡ answer_of (frame_of board.now) }
 {
     let mut at = 1;
-    let mut k = 0;
-    while k < count {
+    for k in 0..count {
         let long = 2 + length_at(board, at);
         if board.len() - at < long {
-            return Framed::Refused { place: at };
+            return Err(Refusal::BoardFrame.at(at));
         }
         at += long;
-        k += 1;
     }
     if at < board.len() {
-        return Framed::Refused { place: at };
+        return Err(Refusal::BoardFrame.at(at));
     }
-    Framed::Sheets { count }
+    Ok(count)
 }
 
 // The length whose two bytes stand at a place; a byte that is missing counts as 0.

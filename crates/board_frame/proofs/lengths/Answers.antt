@@ -1,9 +1,10 @@
 -- `lengths` meets its contract. The loop's invariant: the sheets below k end within the board, and the next length stands behind them.
 use Prim.Native.Nat.{◌+◌, ◌≤◌}
-use mathlib.Core.Path.{refl, ap}
+use mathlib.Core.Path.{refl, ap, ◌∙◌}
 use native.Mathlib.Omega.{arith}
 use native.Mathlib.Numerals.{add-one}
 use lib.ListN.{length}
+use Rattle.std.specs.Prelude.{Err}
 use borrow.Author.Count.{below_more}
 use Rattle.board.specs.Boards.{length_place}
 use Rattle.board_frame.proofs.Ends.{some_byte, next_place, runs_past_lem, stays_within, sheet-past, left_over, nothing-over}
@@ -20,7 +21,7 @@ returns-then-board-at c =
     let start = c.before.before.before.before.before in
     let turn = c.loop-k in
     let long = ap (λ n. 2 + n) c.length_at-long.ensures.0 in
-    sheet-past _ _ _ _ start.requires.0 start.requires.1 start.requires.2 turn.invariant.0 turn.invariant.1 turn.invariant.3
+    ap Err c.at.ensures ∙ sheet-past _ _ _ _ start.requires.0 start.requires.1 start.requires.2 turn.invariant.0 turn.invariant.1 turn.invariant.3
     c.loop-k-test.true (runs_past_lem _ _ _ _ turn.invariant.1 long (omega (arith, c.if-board-at.true)))
 
 pub loop-k-preserved : goal.loop-k-preserved
@@ -40,7 +41,7 @@ pub returns-then-at-board : goal.returns-then-at-board
 returns-then-at-board c =
     let start = c.before.before.before.before in
     let turn = c.loop-k in
-    left_over _ _ _ _ start.requires.0 start.requires.1 start.requires.2 turn.invariant.0 turn.invariant.1 turn.invariant.3
+    ap Err c.at-then-at-board.ensures ∙ left_over _ _ _ _ start.requires.0 start.requires.1 start.requires.2 turn.invariant.0 turn.invariant.1 turn.invariant.3
     c.loop-k-test.false c.if-at-board.true
 
 pub returns : goal.returns

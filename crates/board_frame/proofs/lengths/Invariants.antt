@@ -1,5 +1,5 @@
 -- `lengths` meets its contract. The loop's invariant: the sheets below k end within the board, and the next length stands behind them.
-use Prim.Native.Nat.{ℕ, ◌≤◌, ◌<◌, ◌-◌}
+use Prim.Native.Nat.{ℕ, ◌≤◌, ◌<◌}
 use mathlib.Core.Path.{◌≡◌}
 use mathlib.Core.Bool.{false}
 use lib.ListN.{length}
@@ -9,6 +9,3 @@ use Rattle.board_frame.proofs.lengths.Given as goal
 abbrev pub invariant-loop-k : goal.invariant-loop-k
 invariant-loop-k l =
     (l.k ≤ l.count) × (l.at ≡ length_place l.board l.k) × (l.at ≤ length l.board) × ((j : ℕ) → j < l.k → runs_past l.board j ≡ false)
-
-abbrev pub decreases-loop-k : goal.decreases-loop-k
-decreases-loop-k l = l.count - l.k

@@ -1,7 +1,8 @@
 -- A tick of a board, as one function: from all buffers, marks and the number of the sheet served last to the answer and what is left of them.
-use Rattle.std.specs.Prelude.{ℕ, ◌<◌, Bool, not, ◌&&◌, ◌||◌, cond, List, eqb, ltb, length}
-use Rattle.sheet.specs.Outcomes.{Outcome, refusal, result, packed_refusal}
+use Rattle.std.specs.Prelude.{ℕ, ◌<◌, Bool, not, ◌&&◌, ◌||◌, cond, List, Result, Ok, Err, eqb, ltb, length}
+use Rattle.sheet.specs.Outcomes.{Outcome, refusal, result, refused_at, packed_refusal}
 use Rattle.sheet.specs.Sheets.{Sheet, sheet_forms}
+use Rattle.sheet.specs.declared.Refused.{Refused}
 use Rattle.sheet.specs.declared.Refusal.TheVariants.{StaysUnknown}
 use Rattle.kernel.specs.Calls.{InstantCall}
 use Rattle.kernel.specs.declared.InRounds.{InRounds}
@@ -12,7 +13,7 @@ use Rattle.board.specs.Marks.{marked, marks_of, first_due}
 use Rattle.board.specs.Serving.{Restart, served_call}
 use Rattle.board.specs.declared.Standing.{Standing}
 use Rattle.board.specs.declared.Ticked.{Ticked}
-use Rattle.board.specs.declared.Ticked.TheVariants.{Refused, NoneDue, Served, LeftUnknown}
+use Rattle.board.specs.declared.Ticked.TheVariants.{NoneDue, Served, LeftUnknown}
 
 -- what the caller lends and marks at one tick
 pub record Turn : Type 0 where
@@ -24,7 +25,7 @@ pub record Turn : Type 0 where
 
 -- what the call of a tick leaves
 pub record TickCall : Type 0 where
-  pub answer : Ticked
+  pub answer : Result Ticked Refused
   pub memory : List ℕ
   pub output : List ℕ
   pub standing : Standing
@@ -47,18 +48,18 @@ served_answer k (RefusedInRounds why wire) = LeftUnknown k wire
 served_answer k (AcceptedInRounds rounds) = Served k rounds
 
 -- the answer as one number: the rounds, 0 where none is due, or a refusal
-abbrev pub packed_tick : Ticked → ℕ
-packed_tick (Refused why place) = packed_refusal why place
-packed_tick NoneDue = 0
-packed_tick (Served sheet rounds) = rounds
-packed_tick (LeftUnknown sheet wire) = packed_refusal StaysUnknown wire
+abbrev pub packed_tick : Result Ticked Refused → ℕ
+packed_tick (Err refused) = packed_refusal refused.why refused.place
+packed_tick (Ok NoneDue) = 0
+packed_tick (Ok (Served sheet rounds)) = rounds
+packed_tick (Ok (LeftUnknown sheet wire)) = packed_refusal StaysUnknown wire
 
 -- a sheet's number is one byte, and place, rounds and wire have room in such a number
-abbrev pub PackableTick : Ticked → Type 0
-PackableTick (Refused why place) = place < 65536
-PackableTick NoneDue = Unit {0}
-PackableTick (Served sheet rounds) = (sheet < 256) × (rounds < 65536)
-PackableTick (LeftUnknown sheet wire) = (sheet < 256) × (wire < 65536)
+abbrev pub PackableTick : Result Ticked Refused → Type 0
+PackableTick (Err refused) = refused.place < 65536
+PackableTick (Ok NoneDue) = Unit {0}
+PackableTick (Ok (Served sheet rounds)) = (sheet < 256) × (rounds < 65536)
+PackableTick (Ok (LeftUnknown sheet wire)) = (sheet < 256) × (wire < 65536)
 
 module _ (rule : Restart) (board : List ℕ) (turn : Turn) (sheets : List Sheet) where
   -- the instant of sheet k, on its own parts
@@ -73,7 +74,7 @@ module _ (rule : Restart) (board : List ℕ) (turn : Turn) (sheets : List Sheet)
     serve k =
         let instant = instant_of k in
         record {
-          answer = served_answer k instant.answer;
+          answer = Ok (served_answer k instant.answer);
           memory = with_part 5 sheet_forms sheets k instant.memory turn.memory;
           output = with_part 4 outputs_in sheets k instant.output turn.output;
           standing = record {
@@ -86,7 +87,7 @@ module _ (rule : Restart) (board : List ℕ) (turn : Turn) (sheets : List Sheet)
     abbrev pub none_due : TickCall
     none_due =
         record {
-          answer = NoneDue;
+          answer = Ok NoneDue;
           memory = turn.memory;
           output = turn.output;
           standing = record { stored = marks_of (is_due turn standing) (length sheets); number = standing.number };
@@ -100,7 +101,7 @@ module _ (rule : Restart) (board : List ℕ) (turn : Turn) (sheets : List Sheet)
 -- the tick of a board that passes all checks, or the refusal, which changes nothing
 abbrev pub tick_of : Restart → (board : List ℕ) → Turn → Standing → Outcome (List Sheet) → TickCall
 tick_of rule board turn standing (refusal why place) =
-    record { answer = Refused why place; memory = turn.memory; output = turn.output; standing = standing }
+    record { answer = refused_at why place; memory = turn.memory; output = turn.output; standing = standing }
 tick_of rule board turn standing (result sheets) = serve_first rule board turn sheets standing
 
 unfoldable pub tick_call : Restart → (board : List ℕ) → Turn → Standing → TickCall

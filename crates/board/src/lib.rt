@@ -1,13 +1,10 @@
 // A board of sheets, and what a tick of it answers and hands on. Its definitions and theorems are in specs/. Rests on `sheet` for refusals.
 #![tactic(auto)]
 
-use sheet::Refusal;
-
-// What a tick answers: a refusal; or that no sheet is due; or the sheet that was served, by its number in the board, with the rounds of its
-// instant, or with the wire at which its instant was refused 20.
+// What a tick that passes all checks answers: that no sheet is due; or the sheet that was served, by its number in the board, with the rounds
+// of its instant, or with the wire at which its instant was refused 20.
 #[derive(Clone, Copy)]
 pub enum Ticked {
-    Refused { why: Refusal, place: usize },
     NoneDue,
     Served { sheet: usize, rounds: usize },
     LeftUnknown { sheet: usize, wire: usize },

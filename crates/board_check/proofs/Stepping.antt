@@ -21,7 +21,6 @@ use Rattle.board_check.specs.Found.{behind}
 use Rattle.board_check.specs.Steps.{further_of, Collected, Room, Further, Steps, stops, goes}
 use Rattle.board_check.specs.declared.Begin.{Begin}
 use Rattle.board_check.proofs.Passing.{collected_more}
-use Rattle.sheet.specs.Outcomes.{refused_at}
 
 -- the bytes that are lent
 abbrev pub lent : (board : List ℕ) (at long : ℕ) → List ℕ

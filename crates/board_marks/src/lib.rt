@@ -12,12 +12,15 @@ pub fn due_marks(due: u8, stored: u8, sheets: usize) -> Wires
     requires { sheets ≤ 8 }
     ensures { MarksJust result.bits sheets (λ k. marked due k || marked stored k) }
 {
-    let now = Wires { bits: due as u64 };
-    let waiting = Wires {
-        bits: stored as u64,
-    };
-    let all = now.joined(waiting);
+    let all = set_of(due).joined(set_of(stored));
     Wires::first(sheets).common(all)
+}
+
+// A byte of marks as a set of sheets.
+pub fn set_of(marks: u8) -> Wires
+    ensures { result.bits ≡ marks }
+{
+    Wires { bits: marks as u64 }
 }
 
 // Marks of up to eight sheets as the byte that is handed back.
@@ -33,13 +36,11 @@ pub fn first_due(marks: Wires, sheets: usize, number: u8) -> usize
     ensures { (due : ℕ → Bool) → MarksJust marks.bits sheets due → result ≡ first_due sheets due number }
 {
     let last = served_last(sheets, number);
-    let mut i = 0;
-    while i < sheets {
+    for i in 0..sheets {
         let sheet = ring_at(sheets, last, i);
         if marks.has(sheet) {
             return sheet;
         }
-        i += 1;
     }
     sheets
 }

@@ -20,6 +20,7 @@ use Rattle.board.proofs.Laws.Boards.{BoardRead, board_read, PassedBy, passed-by}
 use Rattle.board.proofs.Laws.Parts.{part-within, joined-next}
 use Rattle.board.proofs.Laws.Passing.{memory_part_lem}
 use Rattle.board_check.specs.declared.Begin.{Begin}
+use Rattle.board_check.specs.declared.Span.{Span}
 use Rattle.board_serving.specs.Fitting.{Fits}
 use Rattle.tick.specs.Ticking.{Parted, ServesPart}
 
@@ -62,7 +63,13 @@ module _ {A : Type 0} {bytes : ℕ} {of : Sheet → List A} {sheets : List Sheet
   unfolding put
   put_is e = rw (e, long-is, place-from, drop-drop)
 
-module _ {board memory input output : List ℕ} {from to : Begin} (p : Parted board memory input output from to) where
+module _ {board memory input output : List ℕ} {span : Span} (p : Parted board memory input output span) where
+  abbrev from : Begin
+  from = span.from
+
+  abbrev to : Begin
+  to = span.to
+
   passed : PassedBy board memory input output p.sheets
   passed = passed-by board memory input output p.sheets p.passes
 

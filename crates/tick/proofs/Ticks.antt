@@ -1,54 +1,46 @@
 -- A tick by what its parts found: refused, with none due, or with a sheet served, it leaves what the definition says.
 use Prim.Native.Nat.{ℕ, ◌≤◌, ◌<◌}
-use mathlib.Core.Path.{◌≡◌, refl, sym, ap, ap₂, ◌∙◌}
+use mathlib.Core.Path.{◌≡◌, refl, sym, ap, ◌∙◌}
 use mathlib.Core.Bool.{Bool, false, not, ◌&&◌}
 use mathlib.Core.List.{List}
+use Rattle.std.specs.Prelude.{Ok, Err}
 use native.Mathlib.Omega.{arith}
 use lib.Dec.{eqb, ltb}
 use lib.ListN.{length}
 use borrow.Author.Tests.{le-ltb}
-use Rattle.sheet.specs.Outcomes.{Outcome, refusal, result}
+use Rattle.sheet.specs.Outcomes.{Outcome, refusal, result, answer_of}
 use Rattle.sheet.specs.Sheets.{Sheet}
 use Rattle.sheet.specs.Laws.Lists.{never}
 use Rattle.sheet.specs.Laws.Outcomes.{same-result}
-use Rattle.sheet.specs.declared.Refusal.{Refusal}
-use Rattle.sheet.specs.declared.Refusal.TheVariants.{BoardFrame}
+use Rattle.sheet.specs.declared.Refused.{Refused}
 use Rattle.kernel.specs.declared.InRounds.{InRounds}
 use Rattle.board.specs.Boards.{frame_of, board_of}
 use Rattle.board.specs.Marks.{marked, marks_of}
 use Rattle.board.specs.Parts.{passed_of}
 use Rattle.board.specs.Serving.{every_cell}
 use Rattle.board.specs.Ticks.{Turn, TickCall, is_due, due_sheet, served_answer, serve, tick_call}
-use Rattle.board.proofs.Laws.Boards.{FramePassed, frame-passed, frame_why, board_read, passed-by}
+use Rattle.board.proofs.Laws.Boards.{FramePassed, frame-passed, board_read, passed-by}
 use Rattle.board.proofs.Laws.Marks.{first-most, first-is}
 use Rattle.board.proofs.Laws.Ticks.{Serves, tick_serves}
 use Rattle.board.specs.declared.Standing.{Standing}
-use Rattle.board.specs.declared.Ticked.TheVariants.{Refused, NoneDue}
+use Rattle.board.specs.declared.Ticked.{Ticked}
+use Rattle.board.specs.declared.Ticked.TheVariants.{NoneDue}
 use Rattle.board_check.specs.Found.{Between}
-use Rattle.board_check.specs.declared.Begin.{Begin}
-use Rattle.board_frame.specs.Frames.{framed_of}
-use Rattle.board_frame.specs.declared.Framed.TheVariants.{Refused as NotFramed, Sheets}
+use Rattle.board_check.specs.declared.Span.{Span}
 use Rattle.tick.specs.Ticking.{turn_of, Leaves, Parted, ServesPart}
-use Rattle.tick.specs.declared.Answered.{Answered}
 
--- What the frame was found to be.
-pub framed-refused : (board : List ℕ) {place : ℕ} → framed_of (frame_of board) ≡ NotFramed place → frame_of board ≡ refusal BoardFrame place
-framed-refused board {place} e = go (frame_of board) refl e
-  where
-    go : (o : Outcome ℕ) → frame_of board ≡ o → framed_of o ≡ NotFramed place → frame_of board ≡ refusal BoardFrame place
-    go (refusal why at) q e = let is = frame_why board q in let place_is : at ≡ place = cc in rw (is, place_is) at q
-    go (result n) q e = never (cc)
+-- What an answer tells of its outcome.
+pub answered-refused : {A : Type 0} (o : Outcome A) {refused : Refused} → Err refused ≡ answer_of o → o ≡ refusal refused.why refused.place
+answered-refused (refusal why place) e = cc
+answered-refused (result a) e = never (cc)
 
-pub framed_sheets : (board : List ℕ) {count : ℕ} → framed_of (frame_of board) ≡ Sheets count → frame_of board ≡ result count
-framed_sheets board {count} e = go (frame_of board) refl e
-  where
-    go : (o : Outcome ℕ) → frame_of board ≡ o → framed_of o ≡ Sheets count → frame_of board ≡ result count
-    go (refusal why at) q e = never (cc)
-    go (result n) q e = let is : n ≡ count = cc in rw is at q
+pub answered_result : {A : Type 0} (o : Outcome A) {a : A} → Ok a ≡ answer_of o → o ≡ result a
+answered_result (refusal why place) e = never (cc)
+answered_result (result a) e = cc
 
 -- A refusal of the frame is one of the checks.
-pub frame_refused : (board memory input output : List ℕ) {why : Refusal} {place : ℕ} → frame_of board ≡ refusal why place
-    → passed_of board memory input output ≡ refusal why place
+pub frame_refused : (board memory input output : List ℕ) {refused : Refused} → frame_of board ≡ refusal refused.why refused.place
+    → passed_of board memory input output ≡ refusal refused.why refused.place
 unfolding passed_of board_of
 frame_refused board memory input output e = rw e
 
@@ -59,10 +51,10 @@ module _ (board memory input output : List ℕ) (due restart : ℕ) (standing : 
   abbrev call : TickCall
   call = tick_call every_cell board turn standing
 
-  pub leaves-refused : {why : Refusal} {place : ℕ} {r : Answered} → passed_of board memory input output ≡ refusal why place
-      → (r.answer ≡ Refused why place) × (r.standing ≡ standing) → Leaves call r memory output
+  pub leaves-refused : {refused : Refused} → passed_of board memory input output ≡ refusal refused.why refused.place
+      → Leaves call (Err refused) standing memory output
   unfolding tick_call
-  leaves-refused e (answer, stands) = rw e (record { answers = answer; hands = stands; stores = refl; writes = refl })
+  leaves-refused e = rw e (record { answers = refl; hands = refl; stores = refl; writes = refl })
 
   module _ {count : ℕ} (framed : frame_of board ≡ result count) where
     frame : FramePassed board count
@@ -75,10 +67,10 @@ module _ (board memory input output : List ℕ) (due restart : ℕ) (standing : 
     count_most = frame.most
 
     module _ {k : ℕ} (first : k ≡ due_sheet count turn standing) where
-      pub due_below : (k ≡ count → ⊥) → k < count
+      pub due_below : (k ≡ count → ⊥) → (k < count) × (k < 8)
       due_below other =
           let most = first-most count (is_due turn standing) standing.number (omega (arith, count-least)) in
-          omega (arith, first, most, other)
+          let below : k < count = omega (arith, first, most, other) in (below, omega (arith, below, count_most))
 
       module _ {sheets : List Sheet} (passes : passed_of board memory input output ≡ result sheets) where
         sheets_counted : length sheets ≡ count
@@ -86,27 +78,27 @@ module _ (board memory input output : List ℕ) (due restart : ℕ) (standing : 
             let read = (passed-by board memory input output sheets passes).read in
             same-result (sym (board_read board sheets read).frame ∙ framed)
 
-        pub leaves-idle : {r : Answered} → k ≡ count → (r.answer ≡ NoneDue) × (r.standing.number ≡ standing.number)
-            → r.standing.stored ≡ marks_of (is_due turn standing) count → Leaves call r memory output
+        pub leaves-idle : {marks : ℕ} → k ≡ count → marks ≡ marks_of (is_due turn standing) count
+            → Leaves call (Ok NoneDue) (record { stored = marks; number = standing.number }) memory output
         unfolding tick_call
-        leaves-idle none (answer, number) stored =
+        leaves-idle none stored =
             let past : ltb (due_sheet count turn standing) count ≡ false = le-ltb (due_sheet count turn standing) count (omega (arith, first)) in
             rw (passes, sheets_counted, past)
-            (record { answers = answer; hands = ap₂ (λ s n. record { stored = s; number = n }) stored number; stores = refl; writes = refl })
+            (record { answers = refl; hands = ap (λ s. record { stored = s; number = standing.number }) stored; stores = refl; writes = refl })
 
-        module _ (other : k ≡ count → ⊥) {from to : Begin} (between : k < length sheets → Between board sheets k from to) where
+        module _ (other : k ≡ count → ⊥) {span : Span} (between : k < length sheets → Between board sheets k span) where
           pub is-sheet : k < length sheets
-          is-sheet = omega (arith, sheets_counted, due_below other)
+          is-sheet = omega (arith, sheets_counted, (due_below other).0)
 
-          abbrev pub parted : Parted board memory input output from to
+          abbrev pub parted : Parted board memory input output span
           parted = record { sheets = sheets; number = k; passes = passes; is_sheet = is-sheet; between = between is-sheet }
 
-          pub leaves-served : {r : Answered} {restarts : Bool} {answer : InRounds} {stored written : List ℕ} → restarts ≡ marked restart k
-              → ServesPart parted restarts answer stored written
-              → (r.answer ≡ served_answer k answer) × (r.standing.number ≡ k)
-              → r.standing.stored ≡ marks_of (λ j. is_due turn standing j && not (eqb j k)) count → Leaves call r stored written
+          pub leaves-served : {ticked : Ticked} {marks : ℕ} {restarts : Bool} {answer : InRounds} {stored written : List ℕ} → restarts ≡ marked restart k
+              → ServesPart parted restarts answer stored written → ticked ≡ served_answer k answer
+              → marks ≡ marks_of (λ j. is_due turn standing j && not (eqb j k)) count
+              → Leaves call (Ok ticked) (record { stored = marks; number = k }) stored written
           unfolding serve
-          leaves-served {r} {answer = answer} restarted part (answers, number) marks =
+          leaves-served {answer = answer} restarted part answers cleared =
               let served = rw restarted at part in
               let same : k ≡ due_sheet (length sheets) turn standing = first ∙ ap (λ n. due_sheet n turn standing) (sym sheets_counted) in
               let due-now = first-is (length sheets) (is_due turn standing) standing.number (omega (arith, same, is-sheet)) in
@@ -115,8 +107,8 @@ module _ (board memory input output : List ℕ) (due restart : ℕ) (standing : 
               let whole = tick_serves every_cell board turn standing sheets k serves in
               rw (whole, sheets_counted)
               (record {
-                answers = answers ∙ ap (served_answer k) served.answers;
-                hands = ap₂ (λ s n. record { stored = s; number = n }) marks number;
+                answers = ap Ok (answers ∙ ap (served_answer k) served.answers);
+                hands = ap (λ s. record { stored = s; number = k }) cleared;
                 stores = served.stores;
                 writes = served.writes;
               })

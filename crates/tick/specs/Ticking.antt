@@ -1,7 +1,8 @@
 -- What the call of a tick leaves, beside its definition; and what is lent to the served sheet.
-use Rattle.std.specs.Prelude.{ℕ, ◌<◌, ◌≡◌, Bool, List, length}
+use Rattle.std.specs.Prelude.{ℕ, ◌<◌, ◌≡◌, Bool, List, Result, length}
 use Rattle.sheet.specs.Outcomes.{result}
 use Rattle.sheet.specs.Sheets.{Sheet, sheet_forms}
+use Rattle.sheet.specs.declared.Refused.{Refused}
 use Rattle.kernel.specs.Calls.{InstantCall}
 use Rattle.kernel.specs.declared.InRounds.{InRounds}
 use Rattle.board.specs.Boards.{bytes_of}
@@ -9,28 +10,29 @@ use Rattle.board.specs.Parts.{memory_part, input_part, output_part, with_part, o
 use Rattle.board.specs.Serving.{every_cell, served_call}
 use Rattle.board.specs.Ticks.{Turn, TickCall}
 use Rattle.board_check.specs.Found.{Between}
-use Rattle.board_check.specs.declared.Begin.{Begin}
-use Rattle.tick.specs.declared.Answered.{Answered}
+use Rattle.board_check.specs.declared.Span.{Span}
+use Rattle.board.specs.declared.Standing.{Standing}
+use Rattle.board.specs.declared.Ticked.{Ticked}
 
 abbrev pub turn_of : (memory input output : List ℕ) → (due restart : ℕ) → Turn
 turn_of memory input output due restart = record { memory = memory; input = input; output = output; due = due; restart = restart }
 
 -- answer, marks and number, memory and output row are those of the call
-pub record Leaves (call : TickCall) (tick : Answered) (memory output : List ℕ) : Type 0 where
-  pub answers : tick.answer ≡ call.answer
-  pub hands : tick.standing ≡ call.standing
+pub record Leaves (call : TickCall) (answer : Result Ticked Refused) (standing : Standing) (memory output : List ℕ) : Type 0 where
+  pub answers : answer ≡ call.answer
+  pub hands : standing ≡ call.standing
   pub stores : memory ≡ call.memory
   pub writes : output ≡ call.output
 
--- the buffers of a board pass all checks, and the parts of one of its sheets stand between two places
-pub record Parted (board memory input output : List ℕ) (from to : Begin) : Type 0 where
+-- the buffers of a board pass all checks, and the parts of one of its sheets stand there
+pub record Parted (board memory input output : List ℕ) (span : Span) : Type 0 where
   pub sheets : List Sheet
   pub number : ℕ
   pub passes : passed_of board memory input output ≡ result sheets
   pub is_sheet : number < length sheets
-  pub between : Between board sheets number from to
+  pub between : Between board sheets number span
 
-module _ {board memory input output : List ℕ} {from to : Begin} (p : Parted board memory input output from to) (restarts : Bool) where
+module _ {board memory input output : List ℕ} {span : Span} (p : Parted board memory input output span) (restarts : Bool) where
   -- the instant of that sheet
   abbrev pub part_instant : InstantCall InRounds
   part_instant =

@@ -1,5 +1,5 @@
 -- Isolation: what a sheet of a board gives goes by the board, the marks, the number and its own parts, and by nothing else.
-use Rattle.std.specs.Prelude.{◌≡◌, Bool, List, ltb, length}
+use Rattle.std.specs.Prelude.{◌≡◌, Bool, List, Ok, ltb, length}
 use Rattle.std.proofs.Math.Path.{refl, sym, ap}
 use Rattle.std.proofs.Common.{◌∙◌}
 use Prim.Native.Nat.{ℕ, ◌<◌}
@@ -24,7 +24,7 @@ use Rattle.board.proofs.Laws.Serving.{IsRestart}
 use Rattle.board.proofs.Laws.Ticks.{Serves, tick_serves, tick_by, others-kept}
 
 -- whether sheet j is the served one goes by its number alone
-serves-number : (j k : ℕ) (instant : InRounds) → serves j (served_answer k instant) ≡ eqb k j
+serves-number : (j k : ℕ) (instant : InRounds) → serves j (Ok (served_answer k instant)) ≡ eqb k j
 serves-number j k (RefusedInRounds why wire) = refl
 serves-number j k (AcceptedInRounds rounds) = refl
 
@@ -72,7 +72,7 @@ module _ (rule : Restart) (isRestart : IsRestart rule) (board : List ℕ) (one o
           let b = tick_by rule board other standing isRestart sheets k (serves-same k (rw same at s)) in (
             b.memory ∙ ap (λ (x : InstantCall InRounds). x.memory) instant_same ∙ sym a.memory,
             b.output ∙ ap (λ (x : InstantCall InRounds). x.output) instant_same ∙ sym a.output,
-            λ _. b.answer ∙ ap (λ (x : InstantCall InRounds). served_answer k x.answer) instant_same ∙ sym a.answer,
+            λ _. b.answer ∙ ap (λ (x : InstantCall InRounds). Ok (served_answer k x.answer)) instant_same ∙ sym a.answer,
           )
       parts false e =
           let apart = eqb-false k j e in

@@ -1,5 +1,5 @@
 -- The numbers with which a tick is refused before marks are stored, 22 and 1 to 16, and their places: in the board or at its end, or below 512.
-use Rattle.std.specs.Prelude.{◌≡◌, ◌⊎◌, Bool, ◌||◌, eqb}
+use Rattle.std.specs.Prelude.{◌≡◌, ◌⊎◌, Bool, ◌||◌, Result, Ok, Err, eqb}
 use Rattle.std.proofs.Math.Path.{refl}
 use Rattle.std.proofs.Math.Logic.{inl, inr}
 use Prim.Native.Nat.{ℕ, zero, suc, ◌+◌, ◌*◌, ◌≤◌, ◌<◌, zero-le}
@@ -10,7 +10,7 @@ use Rattle.std.proofs.Math.Dec.{ltb}
 use Rattle.std.proofs.Math.ListN.{length, get_or, length-take}
 use Rattle.std.proofs.Common.{length-append}
 use borrow.Author.Tests.{ltb-true, ltb-false}
-use Rattle.sheet.specs.Outcomes.{Outcome, refusal, result, followed_by, lowest, unless_length, unless_any, number_of}
+use Rattle.sheet.specs.Outcomes.{Outcome, refusal, result, followed_by, lowest, unless_length, unless_any, number_of, refused_at}
 use Rattle.sheet.specs.Sheets.{Sheet, sheet_forms, sheet_of}
 use Rattle.sheet.specs.Memory.{invalid_at, memory_of}
 use Rattle.sheet.specs.Rows.{wrong_at, inputs_of}
@@ -18,6 +18,7 @@ use Rattle.sheet.specs.Laws.Lists.{never}
 use Rattle.sheet.specs.Laws.Lowest.{lowest-first}
 use Rattle.sheet.specs.Laws.Refusals.{by-test, sheet-refused-inside}
 use Rattle.sheet.proofs.Laws.Typing.{passed_check}
+use Rattle.sheet.specs.declared.Refused.{Refused}
 use Rattle.sheet.specs.declared.Refusal.{Refusal}
 use Rattle.sheet.specs.declared.Refusal.TheVariants.{BoardFrame, MemoryLength, CellContent, InputLength, InputContent, OutputLength}
 use Rattle.kernel.proofs.Laws.Refusals.{few-wires}
@@ -27,7 +28,7 @@ use Rattle.board.specs.Serving.{Restart}
 use Rattle.board.specs.Ticks.{Turn, tick_call, PackableTick}
 use Rattle.board.specs.declared.Standing.{Standing}
 use Rattle.board.specs.declared.Ticked.{Ticked}
-use Rattle.board.specs.declared.Ticked.TheVariants.{Refused, NoneDue, Served, LeftUnknown}
+use Rattle.board.specs.declared.Ticked.TheVariants.{NoneDue, Served, LeftUnknown}
 use Rattle.board.proofs.Laws.Boards.{frame-passed, board_read, passed-by}
 use Rattle.board.proofs.Laws.Serving.{IsRestart}
 use Rattle.board.proofs.Laws.Ticks.{TickServes, TickAnswered, tick_answered}
@@ -170,7 +171,7 @@ passed-within board memory input output =
 
 -- from the answer of the call
 pub tick_refusals : (rule : Restart) → IsRestart rule → (board : List ℕ) (turn : Turn) (standing : Standing) {why : Refusal} {place : ℕ}
-    → (tick_call rule board turn standing).answer ≡ Refused why place → RefusedAt board why place
+    → (tick_call rule board turn standing).answer ≡ refused_at why place → RefusedAt board why place
 tick_refusals rule isRestart board turn standing {why} {place} e =
     go (passed-within board turn.memory turn.input turn.output) ((tick_answered rule board turn standing isRestart).refused e).found
   where
@@ -196,12 +197,12 @@ tick_packable rule isRestart board turn standing short = go (tick_call rule boar
         let passed = passed-by board turn.memory turn.input turn.output t.sheets t.serves.passes in
         omega (arith, t.serves.is_sheet, (board_read board t.sheets passed.read).passed.most)
 
-    go : (answer : Ticked) → (tick_call rule board turn standing).answer ≡ answer → PackableTick answer
-    go (Refused why place) e = placed (tick_refusals rule isRestart board turn standing e).bounded
-    go NoneDue e = tt
-    go (Served k rounds) e =
+    go : (answer : Result Ticked Refused) → (tick_call rule board turn standing).answer ≡ answer → PackableTick answer
+    go (Err refused) e = placed (tick_refusals rule isRestart board turn standing e).bounded
+    go (Ok NoneDue) e = tt
+    go (Ok (Served k rounds)) e =
         let s = answered.served e in
         (number s.tick, omega (arith, s.solved.few, few-wires _ _ _ _ s.solved.given s.solved.passes))
-    go (LeftUnknown k wire) e =
+    go (Ok (LeftUnknown k wire)) e =
         let u = answered.unknown e in
         (number u.tick, omega (arith, u.unknown.lowest.in_range, few-wires _ _ _ _ u.unknown.given u.unknown.passes))

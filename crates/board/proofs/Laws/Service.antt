@@ -1,5 +1,5 @@
 -- Service: a due sheet is served within as many ticks as there are sheets, the marking one included.
-use Rattle.std.specs.Prelude.{◌≡◌, ℕ, ◌+◌, ◌≤◌, ◌<◌, Bool, false, cond}
+use Rattle.std.specs.Prelude.{◌≡◌, ℕ, ◌+◌, ◌≤◌, ◌<◌, Bool, false, Ok, cond}
 use Rattle.std.proofs.Math.Path.{refl, sym}
 use Rattle.std.proofs.Common.{◌∙◌, arith}
 use Rattle.std.proofs.Math.Bool.{true, or-true}
@@ -21,7 +21,7 @@ use Rattle.board.proofs.Laws.Boards.{same_sheets}
 use Rattle.board.proofs.Laws.Marks.{Behind, onward, around, behind-some, last-served, First, itself, before, first-due, some-due, first-is}
 use Rattle.board.proofs.Laws.Ticks.{Serves, tick_serves, stands-behind}
 
-answers-served : (k : ℕ) (instant : InRounds) → serves k (served_answer k instant) ≡ true
+answers-served : (k : ℕ) (instant : InRounds) → serves k (Ok (served_answer k instant)) ≡ true
 answers-served k (RefusedInRounds why wire) = eq-eqb k k refl
 answers-served k (AcceptedInRounds rounds) = eq-eqb k k refl
 

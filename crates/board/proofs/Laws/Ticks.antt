@@ -1,15 +1,16 @@
 -- A tick as a whole, from its answer: refused, it changes nothing; with none due it writes nothing and keeps the number; a served sheet has what its
 -- own instant in rounds gives, demand 2 through it, and no byte outside its parts is changed.
-use Rattle.std.specs.Prelude.{◌≡◌, Bool, true, false, ◌&&◌, List, eqb, ltb, length}
+use Rattle.std.specs.Prelude.{◌≡◌, Bool, true, false, ◌&&◌, List, Result, Ok, eqb, ltb, length}
 use Rattle.std.proofs.Math.Path.{refl, sym, ap}
 use Rattle.std.proofs.Common.{◌∙◌}
 use Prim.Native.Nat.{ℕ, ◌+◌, ◌≤◌, ◌<◌}
 use Rattle.std.proofs.Math.Bool.{not}
 use borrow.Author.Tests.{ltb-true, ltb-false, lt-ltb}
-use Rattle.sheet.specs.Outcomes.{Outcome, refusal, result}
+use Rattle.sheet.specs.Outcomes.{Outcome, refusal, result, refused_at}
 use Rattle.sheet.specs.Sheets.{Sheet, sheet_forms}
 use Rattle.sheet.specs.Laws.Lists.{never}
 use Rattle.sheet.proofs.Laws.Memory.{memory_view}
+use Rattle.sheet.specs.declared.Refused.{Refused}
 use Rattle.sheet.specs.declared.Refusal.{Refusal}
 use Rattle.sheet.specs.declared.Refusal.TheVariants.{StaysUnknown}
 use Rattle.kernel.specs.Calls.{InstantCall, rounds_call}
@@ -22,7 +23,8 @@ use Rattle.board.specs.Marks.{marked}
 use Rattle.board.specs.Serving.{Restart, runs_from, served_call}
 use Rattle.board.specs.Ticks.{Turn, TickCall, found_by, is_due, served_answer, instant_of, serve, due_sheet, tick_call}
 use Rattle.board.specs.declared.Standing.{Standing}
-use Rattle.board.specs.declared.Ticked.TheVariants.{Refused, NoneDue, Served, LeftUnknown}
+use Rattle.board.specs.declared.Ticked.{Ticked}
+use Rattle.board.specs.declared.Ticked.TheVariants.{NoneDue, Served, LeftUnknown}
 use Rattle.board.proofs.Laws.Boards.{passed-by}
 use Rattle.board.proofs.Laws.Marks.{marks-back, marks-none, none-due, first-is}
 use Rattle.board.proofs.Laws.Parts.{ChangedOnly, part-within, cut-put, put_only, put_back, other-part}
@@ -37,7 +39,7 @@ pub record Serves (board : List ℕ) (turn : Turn) (standing : Standing) (sheets
 
 -- what a tick that serves sheet k leaves, with the sheet's instant: the answer and its parts by the instant, and all else as it was
 pub record ServedBy (sheets : List Sheet) (turn : Turn) (k : ℕ) (instant : InstantCall InRounds) (now : TickCall) : Type 0 where
-  pub answer : now.answer ≡ served_answer k instant.answer
+  pub answer : now.answer ≡ Ok (served_answer k instant.answer)
   pub memory : memory_part sheets k now.memory ≡ instant.memory
   pub output : output_part sheets k now.output ≡ instant.output
   pub memory_elsewhere : ChangedOnly (begin 5 sheet_forms sheets k) (begin 5 sheet_forms sheets k + size 5 sheet_forms sheets k)
@@ -72,12 +74,12 @@ module _ (rule : Restart) (board : List ℕ) (turn : Turn) (standing : Standing)
   -- the three ways in which a tick goes
   pub data Goes (now : TickCall) : Type 0 where
     refused : (why : Refusal) (place : ℕ) → found_by board turn ≡ refusal why place
-        → now ≡ record { answer = Refused why place; memory = turn.memory; output = turn.output; standing = standing }
+        → now ≡ record { answer = refused_at why place; memory = turn.memory; output = turn.output; standing = standing }
         → Goes now
     idle : (sheets : List Sheet) → found_by board turn ≡ result sheets
         → ((k : ℕ) → k < length sheets → is_due turn standing k ≡ false)
         → now ≡ record {
-          answer = NoneDue;
+          answer = Ok NoneDue;
           memory = turn.memory;
           output = turn.output;
           standing = record { stored = 0; number = standing.number };
@@ -214,13 +216,17 @@ module _ (rule : Restart) (board : List ℕ) (turn : Turn) (standing : Standing)
       pub output : now.output ≡ turn.output
 
     pub record TickAnswered : Type 0 where
-      pub refused : {why : Refusal} {place : ℕ} → now.answer ≡ Refused why place → TickRefused why place
-      pub none : now.answer ≡ NoneDue → TickIdle
-      pub served : {k rounds : ℕ} → now.answer ≡ Served k rounds → ServedAfter k rounds
-      pub unknown : {k wire : ℕ} → now.answer ≡ LeftUnknown k wire → UnknownIn k wire
+      pub refused : {why : Refusal} {place : ℕ} → now.answer ≡ refused_at why place → TickRefused why place
+      pub none : now.answer ≡ Ok NoneDue → TickIdle
+      pub served : {k rounds : ℕ} → now.answer ≡ Ok (Served k rounds) → ServedAfter k rounds
+      pub unknown : {k wire : ℕ} → now.answer ≡ Ok (LeftUnknown k wire) → UnknownIn k wire
 
     abbrev serves_as : (sheets : List Sheet) (k : ℕ) → Serves board turn standing sheets k → TickServes k
     serves_as sheets k s = record { sheets = sheets; serves = s; by = tick_by sheets k s; stands = stands-behind sheets k s }
+
+    -- an answer that is no refusal holds one thing
+    same-answer : {a b : Ticked} → (answer : Result Ticked Refused) → answer ≡ Ok a → answer ≡ Ok b → a ≡ b
+    same-answer answer e f = cc
 
     -- the answer of a served sheet is of its instant
     served-answer : (k : ℕ) (x : InRounds) {j rounds : ℕ} → served_answer k x ≡ Served j rounds → (k ≡ j) × (x ≡ AcceptedInRounds rounds)
@@ -266,9 +272,10 @@ module _ (rule : Restart) (board : List ℕ) (turn : Turn) (standing : Standing)
         go (refused why place e left) =
             record {
               refused = λ {why = found} {place = at} f.
-                  let g : Refused why place ≡ Refused found at = sym (ap (λ (x : TickCall). x.answer) left) ∙ f in
-                  let why-is : why ≡ found = cc in
-                  let place_is : place ≡ at = cc in
+                  let g : refused_at why place ≡ refused_at found at = sym (ap (λ (x : TickCall). x.answer) left) ∙ f in
+                  let same : record { why = why; place = place } ≡ record { why = found; place = at } = cc in
+                  let why-is = ap (λ (r : Refused). r.why) same in
+                  let place_is = ap (λ (r : Refused). r.place) same in
                   record {
                     found = rw (why-is, place_is) at e;
                     memory = ap (λ (x : TickCall). x.memory) left;
@@ -295,22 +302,18 @@ module _ (rule : Restart) (board : List ℕ) (turn : Turn) (standing : Standing)
               unknown = λ f. never (cc (ap (λ (x : TickCall). x.answer) left));
             }
         go (serving sheets k s left) =
-            let answer : now.answer ≡ served_answer k (instant_of rule board turn sheets k).answer = ap (λ (x : TickCall). x.answer) left in
+            let answer : now.answer ≡ Ok (served_answer k (instant_of rule board turn sheets k).answer) = ap (λ (x : TickCall). x.answer) left in
             record {
-              refused = λ f. no-refusal (instant_of rule board turn sheets k).answer (sym answer ∙ f);
-              none = λ f. never-idle (instant_of rule board turn sheets k).answer (sym answer ∙ f);
+              refused = λ f. never (cc);
+              none = λ f. never-idle (instant_of rule board turn sheets k).answer (same-answer now.answer answer f);
               served = λ f.
-                  let (k-is, e) = served-answer k (instant_of rule board turn sheets k).answer (sym answer ∙ f) in
+                  let (k-is, e) = served-answer k (instant_of rule board turn sheets k).answer (same-answer now.answer answer f) in
                   rw k-is at (served-after sheets k s e);
               unknown = λ f.
-                  let (k-is, (why, e)) = unknown-answer k (instant_of rule board turn sheets k).answer (sym answer ∙ f) in
+                  let (k-is, (why, e)) = unknown-answer k (instant_of rule board turn sheets k).answer (same-answer now.answer answer f) in
                   rw k-is at (unknown_in sheets k s e);
             }
           where
-            no-refusal : (x : InRounds) {why : Refusal} {place : ℕ} → served_answer k x ≡ Refused why place → TickRefused why place
-            no-refusal (RefusedInRounds why wire) e = never (cc)
-            no-refusal (AcceptedInRounds rounds) e = never (cc)
-
             never-idle : (x : InRounds) → served_answer k x ≡ NoneDue → TickIdle
             never-idle (RefusedInRounds why wire) e = never (cc)
             never-idle (AcceptedInRounds rounds) e = never (cc)

@@ -4,4 +4,4 @@ use Rattle.board_marks.proofs.due_marks.Goals as goal
 
 pub returns : goal.returns
 returns c =
-    due-just _ _ _ _ _ _ c.joined-all.ensures c.first.ensures c.common.ensures
+    rw (← c.set_of.ensures, ← c.set_of-2.ensures) (due-just _ _ _ _ _ _ c.joined-all.ensures c.first.ensures c.common.ensures)

@@ -34,15 +34,14 @@ pub fn instant(
             match schedule::check_schedule(schedule, types.len(), &map.reads) {
                 Ordered::Refused { why, place } => Scheduled::Refused { why, place },
                 Ordered::Passed => {
-                    pass::pass(
+                    let instant = rounds::Instant {
                         sheet,
                         memory,
                         types,
-                        &map.places,
-                        &map.firsts,
-                        schedule,
-                        &mut words,
-                    );
+                        places: &map.places,
+                        firsts: &map.firsts,
+                    };
+                    pass::pass(&instant, schedule, &mut words);
                     next_memory::store(sheet, memory, types, &map.places, &map.firsts, &words);
                     rounds::write_row(&sheet[outputs_from..outputs_to], &words, output);
                     Scheduled::Accepted

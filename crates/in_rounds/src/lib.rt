@@ -94,15 +94,14 @@ fn show(
             outputs_to,
         } => {
             let types = &sheet[types_from..types_to];
-            let solved = rounds::finish(
+            let instant = rounds::Instant {
                 sheet,
                 memory,
                 types,
-                &map.places,
-                &map.firsts,
-                &map.reads,
-                words,
-            );
+                places: &map.places,
+                firsts: &map.firsts,
+            };
+            let solved = rounds::finish(&instant, &map.reads, words);
             let known = solved.known;
             if known.count() as usize == types.len() {
                 rounds::write_row(&sheet[outputs_from..outputs_to], words, output);
@@ -112,16 +111,7 @@ fn show(
                     types_to,
                 };
             }
-            let place = waiting::lowest_waiting(
-                sheet,
-                memory,
-                types,
-                &map.places,
-                &map.firsts,
-                known,
-                words,
-                &mut map.reads,
-            );
+            let place = waiting::lowest_waiting(&instant, known, words, &mut map.reads);
             Shown::Refused {
                 why: Refusal::StaysUnknown,
                 place,

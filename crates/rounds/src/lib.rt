@@ -71,10 +71,7 @@ fn round(instant: &Instant, before: Wires, due: Wires, words: &mut [u32; 144]) -
         (round_over (round_of b.under.running) b.under.values) }
 {
     let mut grown = before;
-    let mut left = due.minus(before);
-    let mut end = left.end() as usize;
-    while end > 0 {
-        let w = end - 1;
+    for w in due.minus(before).into_iter().rev() {
         let here = instant.place_of(w);
         let basis = Basis {
             sheet: instant.sheet,
@@ -84,8 +81,6 @@ fn round(instant: &Instant, before: Wires, due: Wires, words: &mut [u32; 144]) -
         };
         let worth = expression::value_of_wire(&basis, instant.types[w], here);
         grown = put_value(worth, w, grown, words);
-        left = left.without(w);
-        end = left.end() as usize;
     }
     grown
 }
@@ -105,6 +100,7 @@ pub fn finish(instant: &Instant, reads: &[u64; 64], words: &mut [u32; 144]) -> F
     let mut known = Wires::none();
     let mut due = Wires::first(instant.types.len());
     let mut rounds = 0;
+    // No `for` over the numbers of the rounds: an answer would have to stand behind it that is never given.
     loop {
         let grown = round(instant, known, due, words);
         let made = rounds + 1;

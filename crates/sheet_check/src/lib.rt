@@ -11,6 +11,7 @@ ghost use Rattle.sheet_expressions.specs.Map.{TypeBytes, Drawn, Mapped, wires_of
 
 use sheet::{Counts, Refusal, Refused};
 use sheet_expressions::map::Map;
+use sheet_names::Names;
 
 // The check of any bytes: the four counts of a sheet, or the first refusal with its place.
 pub fn check(sheet: &[u8]) -> Result<Counts, Refused>
@@ -97,7 +98,7 @@ fn expressions_from(
         outputs.now at) }
     ensures drawn { Drawn inputs.now wires.now sheet.now at map.new }
 {
-    let mut names = sheet_names::names_of(inputs, wires);
+    let mut names = Names::of(inputs, wires);
     let found = sheet_expressions::check_wires(&sheet, &mut names, wires, at, map)?;
     if found.next < sheet.len() {
         return Err(Refusal::LeftOver.at(found.next));

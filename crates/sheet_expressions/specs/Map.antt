@@ -14,6 +14,7 @@ use Rattle.sheet.specs.Memory.{form_byte, own_cell}
 use Rattle.sheet.specs.Typing.{Pairwise}
 use Rattle.sheet.specs.Laws.Headers.{SheetRead}
 use Rattle.sheet_names.specs.Naming.{ahead_in, Naming}
+use Rattle.sheet_names.specs.declared.Names.{Names}
 use Rattle.sheet_own.specs.Own.{Joins, HasOperands}
 use Rattle.sheet.specs.declared.Cell.{Cell}
 use Rattle.sheet.specs.declared.Cell.TheVariants.{Started}
@@ -76,7 +77,7 @@ kept_forms byte = cond (is_kept byte) (kept_cell (wire_type byte) ∷ []) []
 
 -- of a wire with this type byte, behind so many cells that are counted, the cell that it owns itself was noted; and behind it, among the
 -- names, it is no longer ahead
-pub record KeptNoted (byte count : ℕ) (names later before after : List ℕ) : Type 0 where
+pub record KeptNoted (byte count : ℕ) (names later : Names) (before after : List ℕ) : Type 0 where
   pub entered : (s : List ℕ) → Entered s (kept_forms byte) (count - ahead_in names) before after
   pub ahead : ahead_in later ≡ ahead_in names - own_cells byte
   pub naming : (inputs wires : List ℕ) → Naming inputs wires names → Naming inputs wires later
@@ -106,8 +107,8 @@ pub record NodeAt (s : List ℕ) (level t at c : ℕ) : Type 0 where
   pub room : c ≤ 64
   pub few : length s ≤ 4096
 
--- numbers that the names of a sheet's leaves are looked up in, where its wires have these types
-pub record WiresLookup (types names : List ℕ) : Type 0 where
+-- names by which those of a sheet's leaves are looked up, where its wires have these types
+pub record WiresLookup (types : List ℕ) (names : Names) : Type 0 where
   pub inputs : List ℕ
   pub naming : Naming inputs types names
 

@@ -19,6 +19,7 @@ ghost use Rattle.sheet_expressions.specs.Map.{TypeBytes, WiresLookup, Checks, No
 use map::Map;
 use sheet::kinds::Kind;
 use sheet::{Got, Refusal, Refused, kinds};
+use sheet_names::Names;
 use wires::Wires;
 
 // One of two sets, by a test: without a branch.
@@ -33,7 +34,7 @@ fn either(test: bool, yes: u64, no: u64) -> u64
 #[cycle(checking)]
 fn check_operands(
     sheet: &&[u8],
-    names: &[u64; 10],
+    names: &Names,
     kind: Kind,
     level: usize,
     asked: u8,
@@ -55,15 +56,13 @@ fn check_operands(
     let types = kind.operand_types(asked);
     let mut next = at;
     let mut behind = count;
-    let mut i = 0;
-    while i < operands {
+    for i in 0..operands {
         let before = *reads;
         let asked_here = kinds::operand_type(types, i);
         let one = check_operand(sheet, names, level, asked_here, next, behind, cells, reads)?;
         *reads = either(i < counted, *reads, before);
         next = one.next;
         behind = one.count;
-        i += 1;
     }
     Ok(Got {
         next,
@@ -75,7 +74,7 @@ fn check_operands(
 #[cycle(checking)]
 fn check_node(
     sheet: &&[u8],
-    names: &[u64; 10],
+    names: &Names,
     level: usize,
     asked: u8,
     at: usize,
@@ -94,7 +93,7 @@ fn check_node(
     if !kind.fits(asked) {
         return Err(Refusal::TypeAsked.at(at));
     }
-    let number = count - sheet_names::ahead(names);
+    let number = count - names.ahead();
     sheet_own::note_own(kind, asked, at, number, cells);
     check_operands(
         sheet,
@@ -113,7 +112,7 @@ fn check_node(
 #[cycle(checking)]
 fn check_one(
     sheet: &&[u8],
-    names: &[u64; 10],
+    names: &Names,
     level: usize,
     asked: u8,
     at: usize,
@@ -150,7 +149,7 @@ fn check_one(
 #[cycle(checking)]
 fn check_operand(
     sheet: &&[u8],
-    names: &[u64; 10],
+    names: &Names,
     level: usize,
     asked: u8,
     at: usize,
@@ -175,7 +174,7 @@ fn check_operand(
 // that has two callers is folded into neither.
 fn check_whole(
     sheet: &&[u8],
-    names: &[u64; 10],
+    names: &Names,
     asked: u8,
     at: usize,
     count: usize,
@@ -197,14 +196,14 @@ fn check_whole(
 
 // Notes the cell of a wire with this type byte, if it is kept: before those of the wire's expression, and in an owner's place 4096, where
 // no expression stands. Then one kept wire less is ahead.
-fn note_kept(byte: u8, count: usize, names: &mut [u64; 10], cells: &mut [u16; 64])
+fn note_kept(byte: u8, count: usize, names: &mut Names, cells: &mut [u16; 64])
     requires { (own_cells byte ≤ ahead_in names.old) × (ahead_in names.old ≤ count) × (count ≤ 64) }
     ensures { KeptNoted byte count names.old names.new cells.old cells.new }
 {
     if 2 <= byte {
-        let number = count - sheet_names::ahead(names);
+        let number = count - names.ahead();
         cells[number] = 16384 + (byte % 2) as u16;
-        sheet_names::pass_kept(names);
+        names.pass_kept();
     }
 }
 
@@ -212,7 +211,7 @@ fn note_kept(byte: u8, count: usize, names: &mut [u64; 10], cells: &mut [u16; 64
 // expression starts, the number of the first cell there, and what it reads within the instant; the cells are noted too.
 pub fn check_wires(
     sheet: &&[u8],
-    names: &mut [u64; 10],
+    names: &mut Names,
     types: &[u8],
     at: usize,
     map: &mut Map,
@@ -224,12 +223,12 @@ pub fn check_wires(
         → WiresChecked l.inputs types.now sheet.now.now at result map.new }
 {
     let mut next = at;
-    let mut count = sheet_names::ahead(names);
+    let mut count = names.ahead();
     for w in 0..types.len() {
         let byte = types[w];
         let cells = &mut map.cells;
         note_kept(byte, count, names, cells);
-        let first = count - sheet_names::ahead(names);
+        let first = count - names.ahead();
         map.places[w] = next as u16;
         map.firsts[w] = first as u8;
         let none = Wires::none();

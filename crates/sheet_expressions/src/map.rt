@@ -28,6 +28,22 @@ impl Map {
             cells: [0; 64],
         }
     }
+
+    // The place where a wire's expression starts.
+    pub fn place(&self, wire: usize) -> usize
+        requires { wire < 64 }
+        ensures { result ≡ get_or self.now.places wire 0 }
+    {
+        self.places[wire] as usize
+    }
+
+    // The number of the first cell there.
+    pub fn first(&self, wire: usize) -> usize
+        requires { wire < 64 }
+        ensures { result ≡ get_or self.now.firsts wire 0 }
+    {
+        self.firsts[wire] as usize
+    }
 }
 
 // The place where a wire's expression starts.

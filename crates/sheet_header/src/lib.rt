@@ -48,12 +48,10 @@ fn bytes(
 {
     let mut place = at;
     let mut low = 0;
-    let mut left = count;
-    while 0 < left {
+    for _byte in 0..count {
         let one = field(sheet, place, low, limit, wrong)?;
         place = one.next;
         low = least(rising, one.count);
-        left -= 1;
     }
     Ok(Got { next: place, count })
 }

@@ -1,3 +1,3 @@
 -- The laws that the proofs of the functions that make the names, and change what is ahead, cite.
 pub mod Numbers
-pub mod Names
+pub mod Naming

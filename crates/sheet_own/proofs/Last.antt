@@ -13,6 +13,7 @@ use Rattle.sheet.specs.Readings.{names_of, body_from}
 use Rattle.sheet.specs.Laws.Lists.{never}
 use Rattle.sheet.specs.declared.Refusal.TheVariants.{Cut, Body, TypeAsked}
 use Rattle.sheet_names.specs.Naming.{kept_in, type_in, Naming}
+use Rattle.sheet_names.specs.declared.Names.{Names}
 use Rattle.sheet.specs.Outcomes.{refused_at}
 use Rattle.sheet.specs.Readings.{got_at}
 use Rattle.sheet.specs.declared.Got.{Got}
@@ -29,7 +30,7 @@ kept-below wires n kept = go (leb (length wires) n) refl
     go false e = leb-false (length wires) n e
     go true e = never (cc (sym kept ∙ ap is_kept (get_or-eq_default wires 0 {n = n} (leb-true (length wires) n e))))
 
-module _ (inputs wires names s : List ℕ) (t at c : ℕ) (naming : Naming inputs wires names) (last : get_or s at 0 ≡ 18) (asked : t < 2)
+module _ (inputs wires : List ℕ) (names : Names) (s : List ℕ) (t at c : ℕ) (naming : Naming inputs wires names) (last : get_or s at 0 ≡ 18) (asked : t < 2)
     (room : c ≤ 64) (small : get_or s (at + 1) 0 < 256) where
   abbrev named : ℕ
   named = get_or s (at + 1) 0

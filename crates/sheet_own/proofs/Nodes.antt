@@ -14,6 +14,7 @@ use Rattle.sheet.specs.Laws.Readings.{not_good, Rows, kinds-between, ◌▸◌, 
 use Rattle.sheet.specs.declared.Refusal.{Refusal}
 use Rattle.sheet.specs.declared.Refusal.TheVariants.{Cut, Body, TypeAsked, CellLimit}
 use Rattle.sheet_names.specs.Naming.{limit_in, type_in, Naming}
+use Rattle.sheet_names.specs.declared.Names.{Names}
 use Rattle.sheet_own.specs.Own.{Joins, LeafChecks, then_type, HasOperands}
 use Rattle.sheet.specs.Outcomes.{refused_at}
 use Rattle.sheet.specs.Readings.{got_at}
@@ -126,7 +127,7 @@ module _ (inputs wires s : List ℕ) (t at c : ℕ) (byte : at < length s) (owne
       rw (rest room whole) (sym (names_node inputs wires s t at (at + 1 + body_of kind) (c + 1) node fine))
 
 -- the own bytes of a leaf, test by test
-module _ (inputs wires names s : List ℕ) (t at c : ℕ) (naming : Naming inputs wires names) (byte : at < length s) (leaf : get_or s at 0 < 4)
+module _ (inputs wires : List ℕ) (names : Names) (s : List ℕ) (t at c : ℕ) (naming : Naming inputs wires names) (byte : at < length s) (leaf : get_or s at 0 < 4)
     (asked : t < 2) (room : c ≤ 64) (small : get_or s (at + 1) 0 < 256) where
   abbrev leaf-kind : ℕ
   leaf-kind = get_or s at 0

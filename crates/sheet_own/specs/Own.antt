@@ -6,6 +6,7 @@ use Rattle.sheet.specs.Lists.{among}
 use Rattle.sheet.specs.Reads.{wires_named}
 use Rattle.sheet.specs.Readings.{body_from, body_at}
 use Rattle.sheet_names.specs.Naming.{Naming}
+use Rattle.sheet_names.specs.declared.Names.{Names}
 use Rattle.sheet.specs.declared.Refusal.TheVariants.{TypeAsked}
 use Rattle.sheet.specs.Outcomes.{refused_at}
 use Rattle.sheet.specs.Readings.{got_at}
@@ -13,8 +14,8 @@ use Rattle.sheet.specs.declared.Got.{Got}
 use Rattle.sheet.specs.declared.Refused.{Refused}
 use Rattle.std.specs.Prelude.{Result, Ok, Err}
 
--- numbers that the names of some sheet's expressions are looked up in
-pub record Lookup (names : List ℕ) : Type 0 where
+-- names by which those of some sheet's expressions are looked up
+pub record Lookup (names : Names) : Type 0 where
   pub inputs : List ℕ
   pub wires : List ℕ
   pub naming : Naming inputs wires names

@@ -11,6 +11,7 @@ ghost use Rattle.sheet_own.specs.Own.{Lookup, Joins, LeafChecks, then_type, HasO
 
 use sheet::kinds::Kind;
 use sheet::{Got, Refusal, Refused, bodies};
+use sheet_names::Names;
 use wires::Wires;
 
 // The set found so far, with the wire that a leaf of this kind names, if it names one.
@@ -27,7 +28,7 @@ fn with_named(kind: Kind, named: u8, found: Wires) -> Wires
 // 2, 7 and 9 of the expression at `at`, which has no operands, kinds 0 to 3; a wire that it names is read.
 pub fn check_leaf(
     sheet: &[u8],
-    names: &[u64; 10],
+    names: &Names,
     asked: u8,
     at: usize,
     count: usize,
@@ -43,10 +44,10 @@ pub fn check_leaf(
         return Err(Refusal::Cut.at(sheet.len()));
     }
     let named = sheet[at + 1];
-    if sheet_names::limit(names, sheet[at]) <= named as u64 {
+    if names.limit(sheet[at]) <= named as u64 {
         return Err(Refusal::Body.at(at));
     }
-    if sheet_names::type_of(names, sheet[at], named) != asked {
+    if names.type_of(sheet[at], named) != asked {
         return Err(Refusal::TypeAsked.at(at));
     }
     let bits = *reads;
@@ -61,7 +62,7 @@ pub fn check_leaf(
 // 2, 7 and 9 of the expression at `at`, which gives the cell of a kept wire, kind 18; no wire is read.
 pub fn check_last(
     sheet: &[u8],
-    names: &[u64; 10],
+    names: &Names,
     asked: u8,
     at: usize,
     count: usize,
@@ -73,10 +74,10 @@ pub fn check_last(
         return Err(Refusal::Cut.at(sheet.len()));
     }
     let named = sheet[at + 1];
-    if !sheet_names::is_kept(names, named) {
+    if !names.is_kept(named) {
         return Err(Refusal::Body.at(at));
     }
-    if sheet_names::type_of(names, 2, named) != asked {
+    if names.type_of(2, named) != asked {
         return Err(Refusal::TypeAsked.at(at));
     }
     Ok(Got {

@@ -48,10 +48,8 @@ fn fill(sheet: &[u8], cells: &[u16; 64], count: usize, memory: &mut [u8])
     ensures { (p : Noted sheet.now cells.now count)
         → memory.new ≡ memory_bytes (start_memory p.forms) }
 {
-    let mut k = 0;
-    while k < count {
+    for k in 0..count {
         memory::put_cell(memory, k, start_cell(sheet, cells[k]));
-        k = k + 1;
     }
 }
 

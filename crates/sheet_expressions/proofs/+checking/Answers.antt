@@ -111,7 +111,7 @@ check_operands-returns-in_err-one t c = λ l.
     let read = read_expression l.inputs l.wires a.sheet.now.now a.level in
     let one = rw is at (c.in_err-one.ensures l) in
     rw (p.1, p.2) (refused_checks (each-refused read (operands_of (byte_of a.kind) a.asked) o.i o.next o.behind more (sym one.answers)
-    ∙ (o.invariant.3 l).0))
+    ∙ (o.invariant.2 l).0))
 
 pub check_operands-loop-i-preserved : goal.check_operands-loop-i-preserved
 check_operands-loop-i-preserved t c =
@@ -124,17 +124,16 @@ check_operands-loop-i-preserved t c =
     let more : o.i < length (operands_of (byte_of a.kind) a.asked) = omega (arith, operands-counted a.asked (byte_of a.kind) (byte_few a.kind)) in
     let l = c.requires.0 in
     let read_one = extent l.inputs l.wires a.sheet.now.now a.level _ o.next o.behind (c.in_ok-one.ensures l) got-it in (
-      omega arith,
       read_one.1.limited,
-      omega (arith, read_one.1.counted, o.invariant.2),
+      omega (arith, read_one.1.counted, o.invariant.1),
       λ l.
           let read = read_expression l.inputs l.wires a.sheet.now.now a.level in
           let one = rw is at (c.in_ok-one.ensures l) in (
             each_good read (operands_of (byte_of a.kind) a.asked) o.i o.next o.behind more (sym one.answers ∙ got-it)
-                ∙ (o.invariant.3 l).0,
+                ∙ (o.invariant.2 l).0,
             λ es n k r. rw c.either.ensures (left_step l.inputs l.wires a.sheet.now.now a.level
                 (ahead_in a.names.now) (operands_of (byte_of a.kind) a.asked) _ o.i o.next o.behind
-                more o.invariant.2 got-it one ((o.invariant.3 l).1 es n k r)),
+                more o.invariant.1 got-it one ((o.invariant.2 l).1 es n k r)),
           ),
     )
 
@@ -146,12 +145,12 @@ check_operands-returns t c = λ l.
     let over : length (operands_of (byte_of a.kind) a.asked) ≤ o.i =
     omega (arith, operands-counted a.asked (byte_of a.kind) (byte_few a.kind), c.operands-operands.ensures, c.loop-i-test.false) in
     record {
-      answers = rw (drop_of_length-le (operands_of (byte_of a.kind) a.asked) over) at (o.invariant.3 l).0;
+      answers = rw (drop_of_length-le (operands_of (byte_of a.kind) a.asked) over) at (o.invariant.2 l).0;
       cells = λ es n k e. (left-none l.inputs l.wires a.sheet.now.now a.level (ahead_in a.names.now)
-          (operands_of (byte_of a.kind) a.asked) o.i o.next o.behind over ((o.invariant.3 l).1 es n k e)).0;
+          (operands_of (byte_of a.kind) a.asked) o.i o.next o.behind over ((o.invariant.2 l).1 es n k e)).0;
       reads = λ es n k e. rw c.read_operands-counted.ensures at (left-none l.inputs l.wires a.sheet.now.now
           a.level (ahead_in a.names.now) (operands_of (byte_of a.kind) a.asked) o.i o.next o.behind over
-          ((o.invariant.3 l).1 es n k e)).1;
+          ((o.invariant.2 l).1 es n k e)).1;
     }
 
 pub check_one-returns-in_default : goal.check_one-returns-in_default

@@ -27,7 +27,7 @@ decreases-check_operands l = 5 * l.level + 3
 
 abbrev pub invariant-check_operands-loop-i : goal.invariant-check_operands-loop-i
 invariant-check_operands-loop-i l =
-    (l.i ≤ l.operands) × (l.behind ≤ 64) × (ahead_in l.names ≤ l.behind)
+    (l.behind ≤ 64) × (ahead_in l.names ≤ l.behind)
     × ((m : Lookup l.names)
     → (erased (read_each (read_expression m.inputs m.wires l.sheet.now l.level) (drop l.i (operands_of (byte_of l.fn.kind) l.asked)) l.next l.behind)
     ≡ erased (read_each (read_expression m.inputs m.wires l.sheet.now l.level) (operands_of (byte_of l.fn.kind) l.asked) l.at l.count))
@@ -36,6 +36,3 @@ invariant-check_operands-loop-i l =
     → Left l.sheet.now (read_expression m.inputs m.wires l.sheet.now l.level) (ahead_in l.names) (drop l.i (operands_of (byte_of l.fn.kind) l.asked))
     l.next l.behind n k (forms_of es) (l.count - ahead_in l.names) l.initial.cells l.cells (l.counted - l.i)
     (all_read (take l.counted es)) l.initial.reads l.reads))
-
-abbrev pub decreases-check_operands-loop-i : goal.decreases-check_operands-loop-i
-decreases-check_operands-loop-i l = l.operands - l.i

@@ -11,6 +11,7 @@ use Rattle.std.proofs.lemmas.Result.{err_from_is_err_and}
 use Rattle.sheet.specs.Sheets.{kept_count, own_cells, read_wire, read_wires}
 use Rattle.sheet.proofs.Laws.Wires.{kept-few}
 use Rattle.sheet_names.specs.Naming.{Naming}
+use Rattle.sheet_names.specs.declared.Names.{Names}
 use Rattle.sheet_names.proofs.Numbers.{kept_from}
 use Rattle.sheet_own.specs.Own.{Lookup}
 use Rattle.sheet_expressions.specs.Map.{run_of}
@@ -19,8 +20,8 @@ use Rattle.sheet_expressions.proofs.Noting.{extent}
 use Rattle.sheet_expressions.proofs.Drawing.{run-refused, nothing-drawn, wire-drawn, all-drawn}
 use Rattle.sheet_expressions.proofs.check_wires.Goals as goal
 
--- the numbers in which names are looked up
-abbrev lookup : {inputs types names : List ℕ} → Naming inputs types names → Lookup names
+-- the names by which those of the expressions are looked up
+abbrev lookup : {inputs types : List ℕ} {names : Names} → Naming inputs types names → Lookup names
 lookup {inputs} {types} naming = record { inputs = inputs; wires = types; naming = naming }
 
 -- behind the wire's own cell

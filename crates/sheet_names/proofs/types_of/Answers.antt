@@ -12,22 +12,19 @@ use Rattle.sheet_names.proofs.types_of.Invariants.{is_number}
 use Rattle.sheet_names.proofs.types_of.Goals as goal
 
 pub loop-i-init : goal.loop-i-init
-loop-i-init c = (omega arith, none_before _ _ c.none-numbers.ensures, none_before _ _ c.none-kept.ensures, omega arith)
+loop-i-init c = (none_before _ _ c.none-numbers.ensures, none_before _ _ c.none-kept.ensures, omega arith)
 
 pub overflow_add-count : goal.overflow_add-count
 overflow_add-count c =
-    let at = c.before.before.before.before.before.before in
-    let start = at.before.before.before.before in
-    omega (arith, at.loop-i.invariant.3, kept-few start.args.types.now, start.requires)
+    omega (arith, c.loop-i.invariant.2, kept-few c.args.types.now, c.requires)
 
 pub loop-i-preserved : goal.loop-i-preserved
 loop-i-preserved c =
     let at = c.loop-i in
     let turn = c.loop-i-test.true in (
-      omega arith,
-      elim c.if-types-i-eq1.branch [ goal.then-types-i-eq1 w ↦ rw w.numbers-is (name-added is_number _ at.invariant.1 w.with-numbers.ensures (eq-eqb _ _ w.if-types-i-eq1.true)) | goal.else-types-i-eq1 w ↦ rw w.numbers-is (name-passed is_number _ at.invariant.1 (ne_eqb _ _ w.if-types-i-eq1.false)) ],
-      elim c.if-types-i-ge2.branch [ goal.then-types-i-ge2 w ↦ rw w.kept-is (name-added is_kept _ at.invariant.2 w.with-kept.ensures (le-leb _ _ w.if-types-i-ge2.true)) | goal.else-types-i-ge2 w ↦ rw w.kept-is (name-passed is_kept _ at.invariant.2 (lt-leb _ _ w.if-types-i-ge2.false)) ],
-      elim c.if-types-i-ge2.branch [ goal.then-types-i-ge2 w ↦ rw w.count-is (kept-counted _ at.i at.count turn (le-leb _ _ w.if-types-i-ge2.true) at.invariant.3) | goal.else-types-i-ge2 w ↦ rw w.count-is (rw add-zero at (kept-counted _ at.i at.count turn (lt-leb _ _ w.if-types-i-ge2.false) at.invariant.3)) ],
+      elim c.if-types-i-eq1.branch [ goal.then-types-i-eq1 w ↦ rw w.numbers-is (name-added is_number _ at.invariant.0 w.with-numbers.ensures (eq-eqb _ _ w.if-types-i-eq1.true)) | goal.else-types-i-eq1 w ↦ rw w.numbers-is (name-passed is_number _ at.invariant.0 (ne_eqb _ _ w.if-types-i-eq1.false)) ],
+      elim c.if-types-i-ge2.branch [ goal.then-types-i-ge2 w ↦ rw w.kept-is (name-added is_kept _ at.invariant.1 w.with-kept.ensures (le-leb _ _ w.if-types-i-ge2.true)) | goal.else-types-i-ge2 w ↦ rw w.kept-is (name-passed is_kept _ at.invariant.1 (lt-leb _ _ w.if-types-i-ge2.false)) ],
+      elim c.if-types-i-ge2.branch [ goal.then-types-i-ge2 w ↦ rw w.count-is (kept-counted _ at.i at.count turn (le-leb _ _ w.if-types-i-ge2.true) at.invariant.2) | goal.else-types-i-ge2 w ↦ rw w.count-is (rw add-zero at (kept-counted _ at.i at.count turn (lt-leb _ _ w.if-types-i-ge2.false) at.invariant.2)) ],
     )
 
 pub returns : goal.returns
@@ -36,7 +33,7 @@ returns c =
     let at = c.loop-i in
     let over = c.loop-i-test.false in
     record {
-      numbers = all-before is_number _ refl over at.invariant.1;
-      kept = all-before is_kept _ refl over at.invariant.2;
-      counted = rw (drop_of_length-le _ over, add-zero) at at.invariant.3;
+      numbers = all-before is_number _ refl over at.invariant.0;
+      kept = all-before is_kept _ refl over at.invariant.1;
+      counted = rw (drop_of_length-le _ over, add-zero) at at.invariant.2;
     }

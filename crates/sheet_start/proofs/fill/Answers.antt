@@ -20,9 +20,6 @@ pub put_cell-requires : goal.put_cell-requires
 put_cell-requires c =
     omega (arith, c.requires.memory_len, c.loop-k.invariant.0, c.loop-k-test.true)
 
-pub loop-k-smaller : goal.loop-k-smaller
-loop-k-smaller c = omega (arith, c.loop-k-test.true)
-
 pub loop-k-preserved : goal.loop-k-preserved
 loop-k-preserved c =
     let l = c.loop-k in (

@@ -1,21 +1,21 @@
--- The ten numbers of a sheet give the limits and the types of what its leaves name, a row of the table of kinds at a time, and the kept
+-- The names of a sheet give the limits and the types of what its leaves name, a row of the table of kinds at a time, and the kept
 -- wires.
-use Prim.Native.Nat.{ℕ, ◌+◌, ◌/◌, ◌%◌, ◌^◌, ◌≤◌, ◌<◌}
+use Prim.Native.Nat.{ℕ, ◌/◌, ◌%◌, ◌^◌, ◌≤◌, ◌<◌}
 use mathlib.Core.Path.{◌≡◌, refl, sym, ap, ◌∙◌}
 use mathlib.Core.Bool.{Bool, true, false, ◌&&◌}
 use mathlib.Core.List.{List, [], ◌∷◌}
 use native.Mathlib.Nat.{zero-div}
 use native.Mathlib.Omega.{arith}
 use lib.Dec.{eqb, ltb, leb}
-use lib.ListN.{length, get_or, set, get_or-eq_default}
-use lib.Seq.{get_or-set_same, get_or-set_other}
-use borrow.Author.Tests.{eqb-true, eqb-false, ltb-false, lt-leb, leb-true, leb-false}
+use lib.ListN.{length, get_or, get_or-eq_default}
+use borrow.Author.Tests.{eqb-true, eqb-false, ltb-false, lt-leb}
 use Rattle.wires.specs.Sets.{member}
 use Rattle.sheet.specs.Data.{plain_byte, is_kept}
 use Rattle.sheet.specs.Kinds.{limit_of, found_of}
 use Rattle.sheet.specs.Laws.Readings.{kinds-between, ◌▸◌, end}
 use Rattle.sheet.proofs.Table.{passes, passes_at}
-use Rattle.sheet_names.specs.Naming.{name_in, limit_in, type_in, kept_in, ahead_in, Sorted, Naming}
+use Rattle.sheet_names.specs.declared.Names.{Names}
+use Rattle.sheet_names.specs.Naming.{name_in, limit_in, type_in, kept_in, Sorted, Naming}
 
 -- every bit of the largest number of 64 bits is 1
 every-bit : (i : ℕ) → i < 64 → 18446744073709551615 / 2 ^ i % 2 ≡ 1
@@ -39,9 +39,14 @@ bit_is {types} {bits} few sorted i l =
 module _ {inputs wires : List ℕ} {inputBits inputKeeps input_count wireBits wireKeeps wire_count : ℕ}
     (few_inputs : length inputs ≤ 64) (plain : (i : ℕ) → get_or inputs i 0 < 2) (few : length wires ≤ 64)
     (of-inputs : Sorted inputs inputBits inputKeeps input_count) (of-wires : Sorted wires wireBits wireKeeps wire_count) where
-  abbrev names : List ℕ
+  abbrev names : Names
   names =
-      0 ∷ 18446744073709551615 ∷ wireBits ∷ inputBits ∷ 2 ∷ 256 ∷ length wires ∷ length inputs ∷ wireKeeps ∷ wire_count ∷ []
+      record {
+        numbers = 0 ∷ 18446744073709551615 ∷ wireBits ∷ inputBits ∷ [];
+        limits = 2 ∷ 256 ∷ length wires ∷ length inputs ∷ [];
+        kept = record { bits = wireKeeps };
+        ahead = wire_count;
+      }
 
   abbrev LimitGiven : ℕ → Type 0
   LimitGiven k = (byte : ℕ) → byte < 256 → leb (limit_in names k) byte ≡ leb (limit_of inputs wires k) (name_in k byte)
@@ -81,22 +86,7 @@ module _ {inputs wires : List ℕ} {inputBits inputKeeps input_count wireBits wi
     keeps = λ byte small. kept-given byte;
   }
 
--- no name is looked up in the last of the numbers
-pub ahead-free : {inputs wires : List ℕ} (rows : List ℕ) (x : ℕ) → Naming inputs wires rows → Naming inputs wires (set rows 9 x)
-ahead-free rows x n = record {
-  few = n.few;
-  limits = λ k byte l small. rw (other (4 + k) (omega arith)) (n.limits k byte l small);
-  types = λ k byte t l small within type. rw (other k (omega arith)) (n.types k byte t l small within type);
-  keeps = λ byte small. rw (other 8 (omega arith)) (n.keeps byte small);
-}
-  where
-    other : (k : ℕ) → k < 9 → get_or (set rows 9 x) k 0 ≡ get_or rows k 0
-    other k l = get_or-set_other rows 9 k x 0 (λ (e : k ≡ 9). omega arith)
-
--- where kept wires are ahead, there is a last number, and it can be set
-pub ahead-set : (rows : List ℕ) (x : ℕ) → 1 ≤ ahead_in rows → ahead_in (set rows 9 x) ≡ x
-ahead-set rows x some = get_or-set_same rows 9 x 0 (go (leb (length rows) 9) refl)
-  where
-    go : (b : Bool) → leb (length rows) 9 ≡ b → 9 < length rows
-    go false e = leb-false (length rows) 9 e
-    go true e = absurd (omega (arith, get_or-eq_default rows 0 {n = 9} (leb-true (length rows) 9 e)))
+-- no name is looked up in what is ahead
+pub ahead-free : {inputs wires : List ℕ} (old : Names) (x : ℕ) → Naming inputs wires old
+    → Naming inputs wires (record { numbers = old.numbers; limits = old.limits; kept = old.kept; ahead = x })
+ahead-free old x n = record { few = n.few; limits = n.limits; types = n.types; keeps = n.keeps }

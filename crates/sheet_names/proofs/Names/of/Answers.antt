@@ -1,6 +1,6 @@
--- `names_of` meets its contract, which is a law of the ten numbers and of the sets among them.
-use Rattle.sheet_names.proofs.Names.{names-are}
-use Rattle.sheet_names.proofs.names_of.Goals as goal
+-- `of` meets its contract, which is a law of the names and of the sets among them.
+use Rattle.sheet_names.proofs.Naming.{names-are}
+use Rattle.sheet_names.proofs.Names.of.Goals as goal
 
 pub returns : goal.returns
 returns c = let p = c.requires in

@@ -18,6 +18,8 @@ use Rattle.sheet.specs.declared.Cell.{Cell}
 use Rattle.sheet.specs.declared.Cell.TheVariants.{Started}
 use Rattle.sheet.specs.declared.Datum.TheVariants.{Boolean}
 use Rattle.numbers.specs.Laws.{sets-all, sets-append}
+use Rattle.sheet.specs.Readings.{got, read_expression}
+use Rattle.sheet_walk.specs.declared.Place.{Place}
 use Rattle.sheet_expressions.proofs.Drawing.{forms_snoc}
 use Rattle.kernel.specs.Values.{datum_in, IsKnown}
 use Rattle.kernel.specs.Order.{value_at}
@@ -35,6 +37,7 @@ use Rattle.rounds.proofs.Rounding.{known-held}
 use Rattle.storing.specs.Advances.{Ready, Advances}
 use Rattle.leaves.specs.declared.Valued.{Valued}
 use Rattle.storing.proofs.Standing.{cells-past, memory_append, stored-length}
+use Rattle.rounds.specs.Running.{mapped}
 use Rattle.rounds.specs.Settled.{Settled, stored_of}
 
 no_cells : (cells : List Cell) → length cells ≡ 0 → cells ≡ []
@@ -153,7 +156,7 @@ module _ {s start types places firsts words : List ℕ} (f : Settled s start typ
         }
 
     -- Wire w in its turn: it stores its own cell, if it is kept, and behind it those of its expression, of which the first has number `cell`.
-    module _ {w cell : ℕ} {memory : List ℕ} (h : Stored w memory) (l : w < length types) (q : cell ≡ get_or firsts w 0) where
+    module _ {w : ℕ} {here : Place} {memory : List ℕ} (h : Stored w memory) (l : w < length types) (is : here ≡ mapped places firsts w) where
       abbrev byte : ℕ
       byte = get_or types w 0
 
@@ -167,42 +170,44 @@ module _ {s start types places firsts words : List ℕ} (f : Settled s start typ
       own_bytes = memory_bytes (own_stored byte held)
 
       -- what is worked out for it is what its word holds, as the finished values are a solution
-      own_value : value environment false tree cell ≡ held
+      own_value : value environment false tree here.cell ≡ held
       unfolding Solution
       own_value =
           let r = f.under.running in
           let holds = f.under.holds in
-          wire-valued r f.under.values w l q
+          wire-valued r f.under.values w l is
           ∙ sym (round-at r.given.sheet r.given.inputs r.given.memory f.under.values w)
           ∙ ap (λ values. value_at values w) f.solves
           ∙ (running_stands r holds f.under.typed).on_wires w l
           ∙ rw (known-held (full_at f w l) (holds.each w l))
 
-      number : cell ≡ first w + own_cells byte
-      number = q ∙ (f.under.running.starts w l).first
+      number : here.cell ≡ first w + own_cells byte
+      number = ap (λ x. x.cell) is ∙ (f.under.running.starts w l).first
 
-      sized : first (suc w) ≡ cell + cell_count tree
+      sized : first (suc w) ≡ here.cell + cell_count tree
       sized = omega (arith, (turn h l).counted, number, ap cell_count (f.under.running.starts w l).whole ∙ tree-count byte tree)
 
       -- the cells before those of the expression are in the memory, its own among them
-      pub own-fits : (own_cells byte ≤ cell) × (5 * cell ≤ length memory)
+      pub own-fits : (own_cells byte ≤ here.cell) × (5 * here.cell ≤ length memory)
       own-fits = (omega (arith, number), omega (arith, sized, (turn h l).within, owned.1, h.room))
 
-      module _ {middle : List ℕ} (own : middle ≡ sets memory (5 * (cell - own_cells byte)) own_bytes) where
+      module _ {middle : List ℕ} (own : middle ≡ sets memory (5 * (here.cell - own_cells byte)) own_bytes) where
         -- its own cell is stored, and ends where those of its expression begin
-        own-stored : (middle ≡ sets memory (5 * first w) own_bytes) × (5 * first w + length own_bytes ≡ 5 * cell)
+        own-stored : (middle ≡ sets memory (5 * first w) own_bytes) × (5 * first w + length own_bytes ≡ 5 * here.cell)
         own-stored =
-            let place : cell - own_cells byte ≡ first w = omega (arith, number) in
+            let place : here.cell - own_cells byte ≡ first w = omega (arith, number) in
             (own ∙ rw place, omega (arith, own-size byte held, number))
 
         -- its expression can advance
-        pub ready : {at : ℕ} → at ≡ get_or places w 0 → Ready s middle words 16 (plain_byte byte) (record { at = at; cell = cell })
-        ready p =
+        pub ready : Ready s middle words 16 (plain_byte byte) here
+        ready =
             let t = turn h l in
-            let here = f.under.running.starts w l in
-            let cells = cells-past own_bytes (5 * first w) (omega (arith, own-stored.1)) (cells-within byte tree (rw here.whole at t.cells)) in
-            let extent = expression_extent f.under.running.inputs types s 16 (plain_byte byte) (get_or places w 0) (get_or firsts w 0) here.reads in
-            let count : here.count ≡ first (suc w) = omega (arith, extent.counted, sized, q) in
+            let start = f.under.running.starts w l in
+            let cells = cells-past own_bytes (5 * first w) (omega (arith, own-stored.1, number)) (cells-within byte tree (rw start.whole at t.cells)) in
+            let reads : read_expression f.under.running.inputs types s 16 (plain_byte byte) here.at here.cell ≡ got tree start.next start.count =
+            rw is start.reads in
+            let extent = expression_extent f.under.running.inputs types s 16 (plain_byte byte) here.at here.cell reads in
+            let count : start.count ≡ first (suc w) = omega (arith, extent.counted, sized) in
             record {
               bits = f.bits;
               full = λ x m. known-held (full_at f x m) (f.under.holds.each x m);
@@ -211,9 +216,9 @@ module _ {s start types places firsts words : List ℕ} (f : Settled s start typ
                 wires = types;
                 now = environment;
                 tree = tree;
-                next = here.next;
-                count = here.count;
-                reads = rw (p, q) here.reads;
+                next = start.next;
+                count = start.count;
+                reads = reads;
                 stands = running_stands f.under.running f.under.holds f.under.typed;
                 cells = rw (own-stored.0, number) cells;
               };
@@ -223,10 +228,10 @@ module _ {s start types places firsts words : List ℕ} (f : Settled s start typ
                   omega (arith, t.within, owned.1, h.room, count, size);
             }
 
-        both_stored : {after : List ℕ} → after ≡ sets middle (5 * cell) (memory_bytes (stored environment false tree cell))
+        both_stored : {after : List ℕ} → after ≡ sets middle (5 * here.cell) (memory_bytes (stored environment false tree here.cell))
             → Stored (w + 1) after
         both_stored holds =
-            let cells = stored environment false tree cell in
+            let cells = stored environment false tree here.cell in
             let parts : stored environment false (expression_at trees w) (first w) ≡ own_stored byte held ++ cells =
             ap (λ e. stored environment false e (first w)) (f.under.running.starts w l).whole
             ∙ tree-stored environment false byte tree (first w) ∙ rw (← number, own_value) in
@@ -235,18 +240,17 @@ module _ {s start types places firsts words : List ℕ} (f : Settled s start typ
             (sym (sets-append own_bytes (memory_bytes cells) memory (5 * first w))))
 
         -- its expression advanced
-        pub one-stored : {at : ℕ} (p : at ≡ get_or places w 0) {r : Valued} {after : List ℕ} → Advances (ready p) false r after
-            → Stored (w + 1) after
+        pub one-stored : {r : Valued} {after : List ℕ} → Advances ready false r after → Stored (w + 1) after
         unfolding ready
-        one-stored p a = both_stored a.holds
+        one-stored a = both_stored a.holds
 
         -- its expression has no cells
-        pub none-stored : (w + 1 < length types) × (get_or firsts (w + 1) 0 ≡ cell + own_cells (get_or types (w + 1) 0))
+        pub none-stored : (w + 1 < length types) × (get_or firsts (w + 1) 0 ≡ here.cell + own_cells (get_or types (w + 1) 0))
             → Stored (w + 1) middle
         unfolding memory_bytes
         none-stored (more, alike) =
-            let cells = stored environment false tree cell in
-            let size = stored-length environment false tree cell (omega (arith, (turn h l).within, sized, owned.0)) in
+            let cells = stored environment false tree here.cell in
+            let size = stored-length environment false tree here.cell (omega (arith, (turn h l).within, sized, owned.0)) in
             let next = (f.under.running.starts (w + 1) more).first in
             let nothing : cells ≡ [] = no_cells cells (omega (arith, size, rw add-one at (sym alike ∙ next), sized)) in
             both_stored (rw nothing)

@@ -32,15 +32,13 @@ pub fn store(
 {
     let fixed = Fixed { sheet, words };
     for w in 0..types.len() {
-        let byte = types[w];
-        let cell = numbers::length_of(firsts[w]);
-        store_own(memory, byte, words[w], cell);
-        if may_own(types, firsts, w, cell) {
-            let here = Place {
-                at: map::place(places[w]),
-                cell,
-            };
-            advance::advance_expression(&fixed, memory, 16, data::plain(byte), here, false);
+        let here = Place {
+            at: map::place(places[w]),
+            cell: numbers::length_of(firsts[w]),
+        };
+        store_own(memory, types[w], words[w], here.cell);
+        if may_own(types, firsts, w, here.cell) {
+            advance::advance_expression(&fixed, memory, 16, data::plain(types[w]), here, false);
         }
     }
 }

@@ -3,6 +3,7 @@ use mathlib.Core.Path.{refl, ap, ◌∙◌}
 use Prim.Native.Nat.{◌<◌}
 use native.Mathlib.Omega.{arith}
 use lib.ListN.{length}
+use Rattle.storing.proofs.Steps.{at-place}
 use Rattle.next_memory.proofs.Storing.{unstored, own-fits, ready, one-stored, none-stored, all-stored}
 use Rattle.next_memory.proofs.store.Goals as goal
 
@@ -11,20 +12,20 @@ loop-w-init c = (c.requires.under.running.few, refl, λ f. unstored f)
 
 pub store_own-requires : goal.store_own-requires
 store_own-requires c =
-    own-fits c.requires (c.loop-w.invariant.2 c.requires) (omega arith) c.length_of-cell.ensures.0
+    own-fits c.requires (c.loop-w.invariant.2 c.requires) (omega arith) (at-place _ c.place.ensures c.length_of.ensures.0)
 
 pub advance_expression-requires : goal.advance_expression-requires
 advance_expression-requires c =
     let f = c.requires in
     rw c.plain.ensures
-    (ready f (c.loop-w.invariant.2 f) (omega arith) c.length_of-cell.ensures.0 c.store_own.ensures c.place.ensures)
+    (ready f (c.loop-w.invariant.2 f) (omega arith) (at-place _ c.place.ensures c.length_of.ensures.0) c.store_own.ensures)
 
 pub loop-w-preserved : goal.loop-w-preserved
 loop-w-preserved c =
     let own = c.store_own in
     let before = c.loop-w.invariant in
     let more : c.loop-w.w < length c.args.types.now = omega arith in
-    let first = c.length_of-cell.ensures.0 in (
+    let is = at-place (record { at = c.place.result; cell = c.length_of.result }) c.place.ensures c.length_of.ensures.0 in (
       before.0,
       elim c.if-may_own.branch [
         | goal.then-may_own w ↦ ap length w.memory-is ∙ w.advance_expression.auto.memory
@@ -34,11 +35,11 @@ loop-w-preserved c =
           let h = before.2 f in
           elim c.if-may_own.branch [
             | goal.then-may_own w ↦
-                let can = ready f h more first own.ensures w.place.ensures in
+                let can = ready f h more is own.ensures in
                 rw w.memory-is
-                (one-stored f h more first own.ensures w.place.ensures ((rw w.plain.ensures at w.advance_expression.ensures) can))
+                (one-stored f h more is own.ensures ((rw w.plain.ensures at w.advance_expression.ensures) can))
             | goal.else-may_own w ↦
-                rw w.memory-is (none-stored f h more first own.ensures (c.may_own.ensures w.if-may_own.false))
+                rw w.memory-is (none-stored f h more is own.ensures (c.may_own.ensures w.if-may_own.false))
           ],
     )
 

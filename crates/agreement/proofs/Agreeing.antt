@@ -1,38 +1,21 @@
 -- The two calls side by side, from what each of them leaves, and demand 3 of them.
+use Rattle.std.specs.Prelude.{Option}
 use Prim.Native.Nat.{ℕ}
 use mathlib.Core.Path.{◌≡◌, sym, ◌∙◌}
 use mathlib.Core.List.{List}
 use Rattle.sheet.specs.Outcomes.{result, followed_by}
-use Rattle.sheet.specs.declared.Refusal.{Refusal}
 use Rattle.kernel.specs.Calls.{InstantCall, given_of, in_rounds, rounds_call, scheduled_call, Leaves}
 use Rattle.kernel.proofs.Laws.Demands.{gives_of, given_finished, given_rounds, demand2, demand3}
-use Rattle.kernel.specs.declared.InRounds.{InRounds}
-use Rattle.kernel.specs.declared.InRounds.TheVariants.{Refused as RefusedInRounds, Accepted as AcceptedInRounds}
-use Rattle.kernel.specs.declared.Scheduled.{Scheduled}
-use Rattle.kernel.specs.declared.Scheduled.TheVariants.{Refused as RefusedScheduled, Accepted as AcceptedScheduled}
-use Rattle.agreement.specs.declared.Together.{Together}
-use Rattle.agreement.specs.declared.Together.TheVariants.{NotAccepted, Accepted}
+use Rattle.kernel.specs.Answers.{InRounds, Scheduled}
 use Rattle.agreement.specs.Agreement.{both_answers, Beside, BothGiven, Agreed}
 
--- the answers, case by case
-pub first-refused : {x : InRounds} (y : Scheduled) {why : Refusal} {place : ℕ} → x ≡ RefusedInRounds why place
-    → NotAccepted ≡ both_answers x y
-first-refused y e = rw e
-
-pub second-refused : {x : InRounds} {y : Scheduled} {rounds : ℕ} {why : Refusal} {place : ℕ} → x ≡ AcceptedInRounds rounds
-    → y ≡ RefusedScheduled why place → NotAccepted ≡ both_answers x y
-second-refused e f = rw (e, f)
-
-pub none-refused : {x : InRounds} {y : Scheduled} {rounds : ℕ} → x ≡ AcceptedInRounds rounds → y ≡ AcceptedScheduled
-    → Accepted rounds ≡ both_answers x y
-none-refused e f = rw (e, f)
-
-pub beside : {first : InstantCall InRounds} {second : InstantCall Scheduled} {x : InRounds} {y : Scheduled} {answer : Together}
+-- the two calls side by side, by what each leaves
+pub beside : {first : InstantCall InRounds} {second : InstantCall Scheduled} {x : InRounds} {y : Scheduled} {answer : Option ℕ}
     {memory output copy other : List ℕ} → Leaves first x memory output → Leaves second y copy other → answer ≡ both_answers x y
     → Beside first second answer memory output copy other
 beside l m e = record { answers = rw (l.answers, m.answers) at e; in_rounds = (l.stores, l.writes); along = (m.stores, m.writes) }
 
-pub agreed : {s memory input output copy other list : List ℕ} {answer : Together} {new row newCopy new_row : List ℕ}
+pub agreed : {s memory input output copy other list : List ℕ} {answer : Option ℕ} {new row newCopy new_row : List ℕ}
     → Beside (rounds_call s memory input output) (scheduled_call s copy input other list) answer new row newCopy new_row
     → (g : BothGiven s memory input output copy other list) → Agreed g.given answer new row newCopy new_row
 unfolding rounds_call

@@ -1,5 +1,5 @@
 -- What the two calls leave side by side, and what demand 3 asks and promises of them.
-use Rattle.std.specs.Prelude.{ℕ, suc, ◌≤◌, ◌≡◌, List}
+use Rattle.std.specs.Prelude.{Option, Some, None, Ok, Err, ℕ, suc, ◌≤◌, ◌≡◌, List}
 use Rattle.sheet.specs.Outcomes.{result}
 use Rattle.sheet.specs.Memory.{memory_bytes}
 use Rattle.sheet.specs.Rows.{row_bytes}
@@ -7,21 +7,16 @@ use Rattle.kernel.specs.Instants.{wire_count, next_memory, output_row}
 use Rattle.kernel.specs.Schedules.{IsSchedule}
 use Rattle.kernel.specs.Calls.{Given, given_of, InstantCall}
 use Rattle.kernel.proofs.Laws.Demands.{given_finished, given_rounds}
-use Rattle.kernel.specs.declared.InRounds.{InRounds}
-use Rattle.kernel.specs.declared.InRounds.TheVariants.{Refused as RefusedInRounds, Accepted as AcceptedInRounds}
-use Rattle.kernel.specs.declared.Scheduled.{Scheduled}
-use Rattle.kernel.specs.declared.Scheduled.TheVariants.{Refused as RefusedScheduled, Accepted as AcceptedScheduled}
-use Rattle.agreement.specs.declared.Together.{Together}
-use Rattle.agreement.specs.declared.Together.TheVariants.{NotAccepted, Accepted}
+use Rattle.kernel.specs.Answers.{InRounds, Scheduled}
 
 -- the rounds, where neither answer is a refusal
-abbrev pub both_answers : InRounds → Scheduled → Together
-both_answers (RefusedInRounds why place) along = NotAccepted
-both_answers (AcceptedInRounds rounds) (RefusedScheduled why place) = NotAccepted
-both_answers (AcceptedInRounds rounds) AcceptedScheduled = Accepted rounds
+abbrev pub both_answers : InRounds → Scheduled → Option ℕ
+both_answers (Err refused) along = None
+both_answers (Ok rounds) (Err refused) = None
+both_answers (Ok rounds) (Ok accepted) = Some rounds
 
 -- what the two calls answer and leave, on any buffers
-pub record Beside (first : InstantCall InRounds) (second : InstantCall Scheduled) (answer : Together) (memory output copy other : List ℕ)
+pub record Beside (first : InstantCall InRounds) (second : InstantCall Scheduled) (answer : Option ℕ) (memory output copy other : List ℕ)
     : Type 0 where
   pub answers : answer ≡ both_answers first.answer second.answer
   pub in_rounds : (memory ≡ first.memory) × (output ≡ first.output)
@@ -37,8 +32,8 @@ pub record BothGiven (s memory input output copy other list : List ℕ) : Type 0
   pub schedule : IsSchedule given.sheet list
 
 -- both are accepted, after at most one round more than there are wires, and leave the bytes that the finished values set
-pub record Agreed (given : Given) (answer : Together) (memory output copy other : List ℕ) : Type 0 where
-  pub both : answer ≡ Accepted (given_rounds given)
+pub record Agreed (given : Given) (answer : Option ℕ) (memory output copy other : List ℕ) : Type 0 where
+  pub both : answer ≡ Some (given_rounds given)
   pub few : given_rounds given ≤ suc (wire_count given.sheet)
   pub memories : copy ≡ memory
   pub outputs : other ≡ output

@@ -7,16 +7,10 @@ ghost use Rattle.kernel.specs.Calls.{rounds_call, scheduled_call, Shows, Leaves}
 ghost use Rattle.kernel.proofs.Laws.Previews.{PreviewAgrees};
 ghost use Rattle.agreement.specs.Agreement.{Beside, BothGiven, Agreed};
 
-use kernel::{InRounds, Scheduled};
+use sheet::Refused;
 
-// What the two instants answer together: the rounds, where both are accepted.
-#[derive(Clone, Copy)]
-pub enum Together {
-    NotAccepted,
-    Accepted { rounds: usize },
-}
-
-// The instant in rounds, on `memory` and `output`, and the instant along a schedule, on `copy` and `other`.
+// The instant in rounds, on `memory` and `output`, and the instant along a schedule, on `copy` and `other`; the rounds, where both are
+// accepted.
 pub fn both(
     sheet: &[u8],
     input: &[u8],
@@ -25,7 +19,7 @@ pub fn both(
     copy: &mut [u8],
     other: &mut [u8],
     schedule: &[u8],
-) -> Together
+) -> Option<usize>
     ensures beside { Beside
         (rounds_call sheet.now memory.old input.now output.old)
         (scheduled_call sheet.now copy.old input.now other.old schedule.now)
@@ -36,20 +30,17 @@ pub fn both(
 {
     let in_turn = in_rounds::instant(sheet, memory, input, output);
     let along = along_schedule::instant(sheet, copy, input, other, schedule);
-    let InRounds::Accepted { rounds } = in_turn else {
-        return Together::NotAccepted;
-    };
-    let Scheduled::Accepted = along else {
-        return Together::NotAccepted;
-    };
-    Together::Accepted { rounds }
+    match (in_turn, along) {
+        (Ok(rounds), Ok(())) => Some(rounds),
+        _ => None,
+    }
 }
 
 // What a preview answers, and the instant in rounds behind it.
 #[derive(Clone, Copy)]
 pub struct Previewed {
-    pub preview: InRounds,
-    pub instant: InRounds,
+    pub preview: Result<usize, Refused>,
+    pub instant: Result<usize, Refused>,
 }
 
 // A preview, with the output row `shown`, and then the instant in rounds, with `output`, of the same sheet, memory and input row.

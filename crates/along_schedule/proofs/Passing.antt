@@ -1,19 +1,21 @@
 -- What the list of granted buffers comes to: it is refused, or the pass along it comes to the finished values, which the call leaves.
+use Rattle.std.specs.Prelude.{Result, Ok, Err}
+use Rattle.sheet.specs.Outcomes.{Outcome, refusal, result, done_of, followed_by}
 use Prim.Native.Nat.{ℕ}
-use mathlib.Core.Path.{◌≡◌, refl, ◌∙◌}
+use mathlib.Core.Path.{◌≡◌, refl, sym, ◌∙◌}
 use mathlib.Core.List.{List}
 use native.Mathlib.Omega.{arith}
 use lib.ListN.{length}
-use Rattle.sheet.specs.Outcomes.{Outcome, refusal, result, followed_by}
 use Rattle.sheet.specs.Laws.Lists.{never}
-use Rattle.sheet.specs.declared.Refusal.{Refusal}
+use Rattle.sheet.specs.Laws.Outcomes.{refused-parts}
+use Rattle.sheet.specs.Sheets.{Sheet}
+use Rattle.sheet.specs.declared.Refused.{Refused}
+use Rattle.sheet_expressions.specs.Map.{EachHoldsJust}
+use Rattle.kernel.specs.Instants.{reads_at}
 use Rattle.kernel.specs.Schedules.{schedule_of, IsSchedule, pass}
 use Rattle.kernel.specs.Calls.{given_of, scheduled, scheduled_call, Leaves}
 use Rattle.kernel.proofs.Laws.Schedules.{schedule_passed, passed_schedule}
 use Rattle.kernel.proofs.Laws.Demands.{gives_of, given_finished, scheduled-accepted}
-use Rattle.kernel.specs.declared.Scheduled.TheVariants.{Refused, Accepted}
-use Rattle.schedule.specs.Orders.{ordered_answer}
-use Rattle.schedule.specs.declared.Ordered.TheVariants.{Refused as RefusedOrder, Passed as PassedOrder}
 use Rattle.leaves.specs.Words.{fixed_words}
 use Rattle.rounds.specs.Running.{Holds}
 use Rattle.rounds.specs.Outputs.{words_of}
@@ -23,33 +25,38 @@ use Rattle.given.specs.Grants.{Granted}
 use Rattle.given.specs.Laws.Finished.{given, HoldsFinished, FullFinished, settled, row_written}
 
 -- a refusal 1 to 16 is that of the call, and nothing is written
-pub given-refused : (s memory input output list : List ℕ) {why : Refusal} {place : ℕ} → given_of s memory input output ≡ refusal why place
-    → Leaves (scheduled_call s memory input output list) (Refused why place) memory output
+pub given-refused : (s memory input output list : List ℕ) {r : Refused} → given_of s memory input output ≡ refusal r.why r.place
+    → Leaves (scheduled_call s memory input output list) (Err r) memory output
 unfolding scheduled_call
 given-refused s memory input output list e = record { answers = rw e; stores = rw e; writes = rw e }
 
 module _ {s memory input output places firsts reads start types outputs : List ℕ}
     (g : Granted s memory input output places firsts reads start types outputs) where
-  pub order-refused : (list : List ℕ) {why : Refusal} {place : ℕ}
-      → RefusedOrder why place ≡ ordered_answer (schedule_of (given g).sheet list)
-      → Leaves (scheduled_call s memory input output list) (Refused why place) memory output
-  unfolding scheduled_call scheduled
-  order-refused list {why} {place} e =
-      let r : followed_by (given_of s memory input output) (λ g. scheduled g list) ≡ refusal why place = rw g.passes (go _ refl e) in
-      record { answers = rw r; stores = rw r; writes = rw r }
-    where
-      go : (o : Outcome (List ℕ)) → schedule_of (given g).sheet list ≡ o → RefusedOrder why place ≡ ordered_answer o
-          → scheduled (given g) list ≡ refusal why place
-      go (refusal w p) q e = rw q (cc)
-      go (result order) q e = never (cc)
+  -- what the checks of a list answer, once the reads of each wire are known
+  module _ (list : List ℕ) {checked : Result (Unit {0}) Refused}
+      (checks : (sheet : Sheet) → length sheet.expressions ≡ length types → EachHoldsJust reads (length types) (reads_at sheet.expressions)
+      → checked ≡ done_of (schedule_of sheet list)) where
+    is_checked : checked ≡ done_of (schedule_of (given g).sheet list)
+    is_checked = checks (given g).sheet (omega (arith, g.wired)) (λ w m. g.reading w m)
 
-  pub order-passed : {list : List ℕ} → PassedOrder ≡ ordered_answer (schedule_of (given g).sheet list) → IsSchedule (given g).sheet list
-  order-passed {list} e = go (schedule_of (given g).sheet list) refl e
-    where
-      go : (o : Outcome (List ℕ)) → schedule_of (given g).sheet list ≡ o → PassedOrder ≡ ordered_answer o
-          → IsSchedule (given g).sheet list
-      go (refusal w p) q e = never (cc)
-      go (result order) q e = passed_schedule (given g).sheet list (schedule_passed (given g).sheet list order q).1
+    pub order-refused : {r : Refused} → checked ≡ Err r → Leaves (scheduled_call s memory input output list) (Err r) memory output
+    unfolding scheduled_call scheduled
+    order-refused {r} e =
+        let q : followed_by (given_of s memory input output) (λ g. scheduled g list) ≡ refusal r.why r.place =
+        rw g.passes (go _ refl (sym is_checked ∙ e)) in
+        record { answers = rw q; stores = rw q; writes = rw q }
+      where
+        go : (o : Outcome (List ℕ)) → schedule_of (given g).sheet list ≡ o → done_of o ≡ Err r
+            → scheduled (given g) list ≡ refusal r.why r.place
+        go (refusal w p) q e = let (why-is, place_is) = refused-parts e in rw (q, why-is, place_is)
+        go (result order) q e = never (cc)
+
+    pub order-passed : {u : Unit {0}} → checked ≡ Ok u → IsSchedule (given g).sheet list
+    order-passed {u} e = go (schedule_of (given g).sheet list) refl (sym is_checked ∙ e)
+      where
+        go : (o : Outcome (List ℕ)) → schedule_of (given g).sheet list ≡ o → done_of o ≡ Ok u → IsSchedule (given g).sheet list
+        go (refusal w p) q e = never (cc)
+        go (result order) q e = passed_schedule (given g).sheet list (schedule_passed (given g).sheet list order q).1
 
   module _ {list : List ℕ} (schedule : IsSchedule (given g).sheet list) where
     abbrev pub along : Along s memory types places firsts list start
@@ -69,8 +76,8 @@ module _ {s memory input output places firsts reads start types outputs : List �
           → HoldsFinished g bits words
       pass-holds h = rw (scheduled-accepted (given g) list schedule).0 at h
 
-      pub scheduled-accepts : (h : HoldsFinished g bits words) {new row : List ℕ} → new ≡ stored_of (settled g h pass-full)
-          → row ≡ words_of outputs words → Leaves (scheduled_call s memory input output list) Accepted new row
+      pub scheduled-accepts : {u : Unit {0}} (h : HoldsFinished g bits words) {new row : List ℕ} → new ≡ stored_of (settled g h pass-full)
+          → row ≡ words_of outputs words → Leaves (scheduled_call s memory input output list) (Ok u) new row
       unfolding scheduled_call
       scheduled-accepts h stores writes =
           let accepted = (scheduled-accepted (given g) list schedule).2 in

@@ -4,9 +4,7 @@
 
 ghost use Rattle.kernel.specs.Calls.{scheduled_call, Leaves};
 
-use given::Given;
-use kernel::Scheduled;
-use schedule::Ordered;
+use sheet::Refused;
 use sheet_expressions::map::Map;
 
 // The instant along a schedule, after whose pass no wire is unknown.
@@ -16,37 +14,24 @@ pub fn instant(
     input: &[u8],
     output: &mut [u8],
     schedule: &[u8],
-) -> Scheduled
+) -> Result<(), Refused>
     ensures { Leaves (scheduled_call sheet.now memory.old input.now output.old
         schedule.now) result memory.new output.new }
 {
     let mut map = Map::empty();
     let mut words = [0u32; 144];
-    match given::given_of(sheet, memory, input, output, &mut map, &mut words) {
-        Given::Refused { why, place } => Scheduled::Refused { why, place },
-        Given::Passed {
-            types_from,
-            types_to,
-            outputs_from,
-            outputs_to,
-        } => {
-            let types = &sheet[types_from..types_to];
-            match schedule::check_schedule(schedule, types.len(), &map.reads) {
-                Ordered::Refused { why, place } => Scheduled::Refused { why, place },
-                Ordered::Passed => {
-                    let instant = rounds::Instant {
-                        sheet,
-                        memory,
-                        types,
-                        places: &map.places,
-                        firsts: &map.firsts,
-                    };
-                    pass::pass(&instant, schedule, &mut words);
-                    next_memory::store(sheet, memory, types, &map.places, &map.firsts, &words);
-                    rounds::write_row(&sheet[outputs_from..outputs_to], &words, output);
-                    Scheduled::Accepted
-                }
-            }
-        }
-    }
+    let parts = given::given_of(sheet, memory, input, output, &mut map, &mut words)?;
+    let types = parts.types;
+    schedule::check_schedule(schedule, types.len(), &map.reads)?;
+    let instant = rounds::Instant {
+        sheet,
+        memory,
+        types,
+        places: &map.places,
+        firsts: &map.firsts,
+    };
+    pass::pass(&instant, schedule, &mut words);
+    next_memory::store(sheet, memory, types, &map.places, &map.firsts, &words);
+    rounds::write_row(parts.outputs, &words, output);
+    Ok(())
 }

@@ -5,8 +5,7 @@ use Rattle.sheet.specs.Sheets.{Sheet, sheet_forms}
 use Rattle.sheet.specs.declared.Refused.{Refused}
 use Rattle.sheet.specs.declared.Refusal.TheVariants.{StaysUnknown}
 use Rattle.kernel.specs.Calls.{InstantCall}
-use Rattle.kernel.specs.declared.InRounds.{InRounds}
-use Rattle.kernel.specs.declared.InRounds.TheVariants.{Refused as RefusedInRounds, Accepted as AcceptedInRounds}
+use Rattle.kernel.specs.Answers.{InRounds}
 use Rattle.board.specs.Boards.{bytes_of}
 use Rattle.board.specs.Parts.{memory_part, input_part, output_part, with_part, passed_of, outputs_in}
 use Rattle.board.specs.Marks.{marked, marks_of, first_due}
@@ -44,8 +43,8 @@ due_sheet n turn standing = first_due n (is_due turn standing) standing.number
 
 -- success names the served sheet and its rounds, 20 the sheet and its wire
 abbrev pub served_answer : ℕ → InRounds → Ticked
-served_answer k (RefusedInRounds why wire) = LeftUnknown k wire
-served_answer k (AcceptedInRounds rounds) = Served k rounds
+served_answer k (Err refused) = LeftUnknown k refused.place
+served_answer k (Ok rounds) = Served k rounds
 
 -- the answer as one number: the rounds, 0 where none is due, or a refusal
 abbrev pub packed_tick : Result Ticked Refused → ℕ

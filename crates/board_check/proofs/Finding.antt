@@ -7,7 +7,7 @@ use Rattle.std.specs.Prelude.{Ok, Err}
 use lib.Dec.{eqb}
 use lib.ListN.{length, take}
 use Rattle.sheet.specs.Data.{type_of_byte}
-use Rattle.sheet.specs.Outcomes.{Outcome, refusal, result, followed_by, refused_at}
+use Rattle.sheet.specs.Outcomes.{refused_at, done_of, Outcome, refusal, result, followed_by}
 use Rattle.sheet.specs.Sheets.{Sheet, sheet_forms}
 use Rattle.sheet.specs.Memory.{memory_of}
 use Rattle.sheet.specs.Rows.{inputs_of}
@@ -17,9 +17,8 @@ use Rattle.sheet.specs.declared.Refusal.{Refusal}
 use Rattle.sheet.specs.declared.Refused.{Refused}
 use Rattle.sheet.specs.declared.Refusal.TheVariants.{OutputLength}
 use Rattle.buffers.specs.Laws.{held_forms}
-use Rattle.buffers.specs.Tests.{tested_of, and_tested, buffers_tested, Formed}
-use Rattle.buffers.specs.declared.Tested.{Tested}
-use Rattle.buffers.specs.declared.Tested.TheVariants.{Refused as Unfit, Fine}
+use Rattle.std.specs.Prelude.{Ok, Err}
+use Rattle.buffers.specs.Tests.{Tested, and_tested, buffers_tested, Formed}
 use Rattle.board.specs.Boards.{length_place, frame_of, sheets_from, board_of}
 use Rattle.board.specs.Parts.{joined, inputs_in, outputs_in, passed_of}
 use Rattle.board_check.specs.Found.{behind, Between, Finds, refuses, finds}
@@ -51,8 +50,8 @@ module _ {board : List ℕ} {wanted : ℕ} {forms types : List ℕ} where
 
 -- the outcome by the tests of the buffers, once 1 to 11 are passed
 abbrev by_tests : List Sheet → Tested → Outcome (List Sheet)
-by_tests sheets (Unfit why place) = refusal why place
-by_tests sheets Fine = result sheets
+by_tests sheets (Err r) = refusal r.why r.place
+by_tests sheets (Ok passed) = result sheets
 
 module _ (board memory input output : List ℕ) {n : ℕ} (frame : frame_of board ≡ result n) (wanted : ℕ) where
   abbrev whole : Outcome (List Sheet)
@@ -76,14 +75,14 @@ module _ (board memory input output : List ℕ) {n : ℕ} (frame : frame_of boar
       where
         go : (m : Outcome (List Cell)) (i : Outcome (List Datum)) (t : Bool)
             → followed_by m (λ cells. followed_by i (λ inputs. cond t (result p.sheets) (refusal OutputLength 0)))
-            ≡ by_tests p.sheets (and_tested (tested_of m) (and_tested (tested_of i) (cond t Fine (Unfit OutputLength 0))))
+            ≡ by_tests p.sheets (and_tested (done_of m) (and_tested (done_of i) (cond t (Ok tt) (refused_at OutputLength 0))))
         go (refusal w q) i t = refl
         go (result c) (refusal w q) t = refl
         go (result c) (result d) true = refl
         go (result c) (result d) false = refl
 
-    pub finds_unfit : {why : Refusal} {place : ℕ} → tests ≡ Unfit why place → Finds board wanted whole (refused_at why place)
+    pub finds_unfit : {why : Refusal} {place : ℕ} → tests ≡ refused_at why place → Finds board wanted whole (refused_at why place)
     finds_unfit e = rw (by_tests_lem ∙ ap (by_tests p.sheets) e) refuses
 
-    pub finds-all : tests ≡ Fine → Finds board wanted whole (Ok walked.span)
+    pub finds-all : {u : Unit {0}} → tests ≡ Ok u → Finds board wanted whole (Ok walked.span)
     finds-all e = rw (by_tests_lem ∙ ap (by_tests p.sheets) e) (finds p.located)

@@ -12,7 +12,6 @@ ghost use Rattle.board.specs.Parts.{passed_of};
 ghost use Rattle.board_check.specs.Found.{behind, Finds};
 ghost use Rattle.board_check.specs.Steps.{further_of, Collected, Room, Steps, Walks};
 
-use buffers::Tested;
 use sheet::Refused;
 use sheet_expressions::map::Map;
 
@@ -56,10 +55,8 @@ pub fn check(
     let walked = check_sheets(board, sheets, wanted, &mut forms, &mut types)?;
     let end = walked.end;
     let types = &types[..end.inputs];
-    match buffers::check_buffers(&forms, end.cells, types, end.outputs, memory, input, output) {
-        Tested::Refused { why, place } => Err(why.at(place)),
-        Tested::Fine => Ok(walked.span),
-    }
+    buffers::check_buffers(&forms, end.cells, types, end.outputs, memory, input, output)?;
+    Ok(walked.span)
 }
 
 // 1 to 11 of each sheet, in board order. Where they pass, the tables hold the entries of all cells and the types of all inputs.

@@ -1,4 +1,5 @@
 -- A restarted sheet: what the start leaves goes by the sheet alone, and the instant that runs from it leaves what `served_call` says.
+use Rattle.std.specs.Prelude.{Ok, Err}
 use Prim.Native.Nat.{ℕ, ◌*◌, ◌≤◌}
 use mathlib.Core.Path.{◌≡◌, refl, sym, ap, ◌∙◌}
 use mathlib.Core.Bool.{true, false}
@@ -10,10 +11,9 @@ use Rattle.sheet.specs.Outcomes.{Outcome, refusal, result, followed_by, holds_af
 use Rattle.sheet.specs.Memory.{start_outcome, start_call}
 use Rattle.sheet.specs.Sheets.{sheet_forms}
 use Rattle.sheet.proofs.Laws.Typing.{passed_check}
-use Rattle.sheet.specs.declared.Refusal.{Refusal}
+use Rattle.sheet.specs.declared.Refused.{Refused}
 use Rattle.kernel.specs.Calls.{given_of, Accepted as Gives, in_rounds, rounds_answer, rounds_call, Leaves}
-use Rattle.kernel.specs.declared.InRounds.{InRounds}
-use Rattle.kernel.specs.declared.InRounds.TheVariants.{Refused, Accepted}
+use Rattle.kernel.specs.Answers.{InRounds}
 use Rattle.board.specs.Serving.{every_cell, stored_in, served_call}
 use Rattle.board_serving.specs.Fitting.{Fits}
 
@@ -35,11 +35,11 @@ module _ {s own : List ℕ} (fits : Fits s own) (fresh input output : List ℕ) 
   from_start = starts ∙ start-same fits fresh sized
 
   -- refused, the part is as it was
-  pub anew-refused : {why : Refusal} {place : ℕ} → answer ≡ Refused why place
-      → Leaves (served_call every_cell true s own input output) (Refused why place) own row
+  pub anew-refused : {r : Refused} → answer ≡ Err r
+      → Leaves (served_call every_cell true s own input output) (Err r) own row
   unfolding served_call
   anew-refused e =
-      let is : (rounds_call s (every_cell s own) input output).answer ≡ Refused _ _ = sym (rw from_start at leaves.answers) ∙ e in
+      let is : (rounds_call s (every_cell s own) input output).answer ≡ Err _ = sym (rw from_start at leaves.answers) ∙ e in
       record {
         answers = sym is;
         stores = sym (ap (λ x. stored_in x (rounds_call s (every_cell s own) input output).memory own) is);
@@ -47,11 +47,11 @@ module _ {s own : List ℕ} (fits : Fits s own) (fresh input output : List ℕ) 
       }
 
   -- accepted, it gets what the instant stored
-  pub anew-accepted : {rounds : ℕ} → answer ≡ Accepted rounds → {copied : List ℕ} → copied ≡ next
-      → Leaves (served_call every_cell true s own input output) (Accepted rounds) copied row
+  pub anew-accepted : {rounds : ℕ} → answer ≡ Ok rounds → {copied : List ℕ} → copied ≡ next
+      → Leaves (served_call every_cell true s own input output) (Ok rounds) copied row
   unfolding served_call
   anew-accepted e copies =
-      let is : (rounds_call s (every_cell s own) input output).answer ≡ Accepted _ = sym (rw from_start at leaves.answers) ∙ e in
+      let is : (rounds_call s (every_cell s own) input output).answer ≡ Ok _ = sym (rw from_start at leaves.answers) ∙ e in
       record {
         answers = sym is;
         stores = copies ∙ rw from_start at leaves.stores

@@ -7,7 +7,7 @@ ghost use Rattle.kernel.specs.Calls.{Leaves};
 ghost use Rattle.board.specs.Serving.{every_cell, served_call};
 ghost use Rattle.board_serving.specs.Fitting.{Fits};
 
-use kernel::InRounds;
+use sheet::Refused;
 
 // The instant of a sheet on its own parts of memory, input row and output row.
 pub fn serve(
@@ -16,7 +16,7 @@ pub fn serve(
     input: &[u8],
     output: &mut [u8],
     restarts: bool,
-) -> InRounds
+) -> Result<usize, Refused>
     requires { Fits sheet.now memory.old }
     ensures { Leaves (served_call every_cell restarts sheet.now memory.old input.now output.old)
         result memory.new output.new }
@@ -28,7 +28,12 @@ pub fn serve(
 }
 
 // The instant of a restarted sheet, on a memory of its own, as long as the part.
-fn serve_anew(sheet: &[u8], memory: &mut [u8], input: &[u8], output: &mut [u8]) -> InRounds
+fn serve_anew(
+    sheet: &[u8],
+    memory: &mut [u8],
+    input: &[u8],
+    output: &mut [u8],
+) -> Result<usize, Refused>
     requires { Fits sheet.now memory.old }
     ensures { Leaves (served_call every_cell true sheet.now memory.old input.now output.old)
         result memory.new output.new }
@@ -45,17 +50,13 @@ fn run_anew(
     memory: &mut [u8],
     input: &[u8],
     output: &mut [u8],
-) -> InRounds
+) -> Result<usize, Refused>
     requires { Fits sheet.now memory.old × (length fresh.old ≡ length memory.old) }
     ensures { Leaves (served_call every_cell true sheet.now memory.old input.now output.old)
         result memory.new output.new }
 {
     let _ = sheet_start::start(sheet, fresh);
-    match in_rounds::instant(sheet, fresh, input, output) {
-        InRounds::Refused { why, place } => InRounds::Refused { why, place },
-        InRounds::Accepted { rounds } => {
-            memory.copy_from_slice(fresh);
-            InRounds::Accepted { rounds }
-        }
-    }
+    let rounds = in_rounds::instant(sheet, fresh, input, output)?;
+    memory.copy_from_slice(fresh);
+    Ok(rounds)
 }

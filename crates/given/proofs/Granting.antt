@@ -1,20 +1,20 @@
 -- What buffers that passed 1 to 16 grant: an instant runs by the parts of their sheet.
 use Prim.Native.Nat.{ℕ, ◌+◌, ◌-◌, ◌*◌, ◌≤◌, ◌<◌}
-use mathlib.Core.Path.{◌≡◌, sym, ap, ap₂, ◌∙◌}
+use mathlib.Core.Path.{◌≡◌, refl, sym, ap, ap₂, ◌∙◌}
 use mathlib.Core.Bool.{true, false}
 use mathlib.Core.List.{List, map}
 use Rattle.sheet.specs.declared.Refusal.TheVariants.{TypeByte, OutputWire}
 use native.Mathlib.Omega.{arith}
 use lib.ListN.{length, get_or, take, drop, length-map}
 use Rattle.sheet.specs.Data.{type_of_byte, wire_type}
-use Rattle.sheet.specs.Expressions.{Expression}
+use Rattle.sheet.specs.Expressions.{Expression, CellForm}
 use Rattle.sheet.specs.Readings.{got}
 use Rattle.sheet.specs.Outcomes.{refusal, result}
 use Rattle.sheet.specs.Sheets.{Sheet, sheet_forms, before, read_wires}
 use Rattle.sheet.specs.Laws.Headers.{SheetRead, sheet-view, section_good, section-length}
 use Rattle.sheet.proofs.Laws.Typing.{passed_check}
 use Rattle.sheet.proofs.Laws.Memory.{memory_view}
-use Rattle.sheet_expressions.specs.Map.{StartsAt, EachHoldsJust, Sited, wires_of, run_of}
+use Rattle.sheet_expressions.specs.Map.{StartsAt, EachHoldsJust, Sited, Mapped, wires_of, run_of}
 use Rattle.kernel.specs.Instants.{reads_at}
 use Rattle.kernel.proofs.Laws.Reads.{reads-of-tree}
 use Rattle.kernel.specs.Calls.{Given, given_of}
@@ -22,13 +22,18 @@ use Rattle.kernel.proofs.Laws.Given.{given_by}
 use Rattle.kernel.proofs.Laws.Memory.{given-valid}
 use Rattle.leaves.specs.Words.{word_count, InputsPut, KeptCells, LastsPut}
 use Rattle.sheet.specs.Laws.Lists.{never}
-use Rattle.sheet.specs.declared.Refusal.{Refusal}
+use Rattle.std.specs.Prelude.{Ok, Err}
+use Rattle.sheet.specs.declared.Refused.{Refused}
 use Rattle.expression.specs.Places.{CellsStand}
 use Rattle.rounds.specs.Outputs.{Below}
-use Rattle.given.specs.Grants.{parts_of, part, LiesIn, Granted, Parts, Grants}
-use Rattle.given.specs.declared.Given.TheVariants.{Refused, Passed}
-use Rattle.given.proofs.Standing.{Bytes, memory_stands, input-words}
+use Rattle.given.specs.Grants.{part, Granted, GrantedBy, Grants}
+use Rattle.given.specs.declared.Parts.{Parts}
+use Rattle.given.proofs.Standing.{Bytes, memory_stands, input-words, input-length}
 use Rattle.given.proofs.Keeping.{kept-cells, last-words}
+use Rattle.given.proofs.Passing.{own-tests, buffers, buffers_refused, buffers_passed}
+use Rattle.buffers.specs.Tests.{Tested, Formed, buffers_tested}
+use Rattle.buffers.specs.Laws.{noted-hold, held_forms}
+use Rattle.sheet.proofs.Laws.Checked.{CheckPassed}
 
 -- a run that reads, by equal names
 renamed : (s inputs types others : List ℕ) (at first n k : ℕ) (es trees : List Expression)
@@ -62,9 +67,17 @@ module _ (s : List ℕ) (inputs wires outputs : ℕ) where
   first_at = 2 + inputs + wires + 1 + outputs
 
 module _ (s memory input output places firsts reads : List ℕ) where
-  pub grants-refusal : (words : List ℕ) {why : Refusal} {place : ℕ} → given_of s memory input output ≡ refusal why place
-      → Grants s memory input output places firsts reads words (Refused why place)
-  grants-refusal words e = record { answers = rw e; passed = λ t u o q h. never (cc) }
+  -- what the checks answer grants what the call asks, refused or passed
+  pub grants-refused : (words : List ℕ) {r : Refused} → given_of s memory input output ≡ refusal r.why r.place
+      → Grants s memory input output places firsts reads words (Err r)
+  grants-refused words {r} e =
+      record { refused = λ {r = q} h. let is : r ≡ q = cc in rw (← is) e; passed = λ h. never (cc) }
+
+  pub grants-passed : (words : List ℕ) {parts : Parts}
+      → GrantedBy s memory input output places firsts reads words parts.types.now parts.outputs.now
+      → Grants s memory input output places firsts reads words (Ok parts)
+  grants-passed words {parts} g =
+      record { refused = λ h. never (cc); passed = λ {parts = others} h. let is : parts ≡ others = cc in rw (← is) g }
 
   module _ (given : Given) (e : given_of s memory input output ≡ result given)
       (drawn : (sheet : Sheet) (n k : ℕ) (v : SheetRead s sheet n k) → Sited (wires_of v) places firsts reads)
@@ -156,9 +169,9 @@ module _ (s memory input output places firsts reads : List ℕ) where
     stand = memory_stands memory small (sheet_forms given.sheet) (given_by s memory input output given e).cells
 
     -- the types of the wires are there to be read, and so are the cells of those that are kept
-    pub grants-kept : (2 + input_count + wires_count ≤ length s) × KeptCells types_of firsts memory × (length types_of ≤ 64)
+    pub grants-kept : (first_at s input_count wires_count output_count ≤ length s) × KeptCells types_of firsts memory × (length types_of ≤ 64)
     grants-kept =
-        (omega (arith, parted.within), kept-cells places firsts given.sheet given.memory parted.run parted.starts stand, parted.few)
+        (parted.within, kept-cells places firsts given.sheet given.memory parted.run parted.starts stand, parted.few)
 
     module _ (words : List ℕ) (put : InputsPut input words) (lasts : LastsPut types_of firsts memory words) (room : length words ≡ word_count) where
       granted : Granted s memory input output places firsts reads words types_of outputs_of
@@ -198,18 +211,38 @@ module _ (s memory input output places firsts reads : List ℕ) where
             set_room = parted.set_room;
           }
 
-      pub grants-parts : Grants s memory input output places firsts reads words (parts_of input_count wires_count output_count)
-      grants-parts = record { answers = rw e; passed = λ t u a b h. go t u a b h }
-        where
-          go : (t u a b : ℕ) → parts_of input_count wires_count output_count ≡ Passed t u a b
-              → Parts s memory input output places firsts reads words t u a b
-          go t u a b h =
-              let t-is : 2 + input_count ≡ t = cc in
-              let u-is : 2 + input_count + wires_count ≡ u = cc in
-              let a-is : 2 + input_count + wires_count + 1 ≡ a = cc in
-              let b-is : 2 + input_count + wires_count + 1 + output_count ≡ b = cc in
-              let within = parted.within in
-              let types : LiesIn s (2 + input_count) (2 + input_count + wires_count) = (omega arith, omega (arith, within)) in
-              let outputs : LiesIn s (2 + input_count + wires_count + 1) (2 + input_count + wires_count + 1 + output_count) =
-              (omega arith, within) in
-              rw (← t-is, ← u-is, ← a-is, ← b-is) (record { types = types; outputs = outputs; granted = granted })
+      pub granted-by : GrantedBy s memory input output places firsts reads words types_of outputs_of
+      unfolding granted
+      granted-by = record { granted = granted; stand = record { types_from = refl; outputs_from = refl } }
+
+-- Once 1 to 11 are passed and the map is drawn: what the tests of the buffers, by the counts, refuse or grant.
+module _ {s : List ℕ} {i w o k : ℕ} (p : CheckPassed s i w o k) {places firsts reads forms : List ℕ}
+    (mapped : (sheet : Sheet) (n k : ℕ) (v : SheetRead s sheet n k) → Mapped (wires_of v) places firsts reads forms)
+    (memory input output : List ℕ) {tested : Tested}
+    (tests : (fs : List CellForm) → Formed fs forms k
+    → tested ≡ buffers_tested fs (map type_of_byte (take (1 + i - 1) (drop 1 s))) o memory input output) where
+  own-tested : tested ≡ buffers s memory input output p.outcome
+  own-tested =
+      let noted = rw (← (ap sheet_forms p.view.is)) at (mapped p.sheet p.end _ p.view).cell in
+      tests (sheet_forms p.sheet) (held_forms p.cells_are (noted-hold noted)) ∙ own-tests p memory input output
+
+  pub tested-refused : {r : Refused} → tested ≡ Err r → given_of s memory input output ≡ refusal r.why r.place
+  tested-refused h = buffers_refused _ _ _ _ p.outcome (sym own-tested ∙ h)
+
+  module _ (small : Bytes memory) {u : Unit {0}} (h : tested ≡ Ok u) where
+    -- the types of the wires and the outputs are there to be read, and so are the cells of the wires that are kept
+    pub tested-kept : (first_at s i w o ≤ length s) × KeptCells (types_at s i w o) firsts memory × (length (types_at s i w o) ≤ 64)
+        × (length input ≤ 64)
+    tested-kept =
+        let (given, passes, is) = buffers_passed _ _ _ _ p.outcome (sym own-tested ∙ h) in
+        let (within, kept, few) = rw (is, p.inputs_are, p.wires-are, p.outputs-are)
+        at (grants-kept _ _ _ _ _ _ _ given passes (λ sheet n k v. (mapped sheet n k v).sites) small) in
+        (within, kept, few, input-length _ _ _ _ _ passes)
+
+    pub tested-granted : {words : List ℕ} → InputsPut input words → LastsPut (types_at s i w o) firsts memory words
+        → length words ≡ word_count → GrantedBy s memory input output places firsts reads words (types_at s i w o) (outputs_at s i w o)
+    tested-granted put lasts room =
+        let (given, passes, is) = buffers_passed _ _ _ _ p.outcome (sym own-tested ∙ h) in
+        rw (is, p.inputs_are, p.wires-are, p.outputs-are)
+        at (granted-by _ _ _ _ _ _ _ given passes (λ sheet n k v. (mapped sheet n k v).sites) small _ put
+        (rw (is, p.inputs_are, p.wires-are) lasts) room)

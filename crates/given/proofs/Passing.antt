@@ -6,21 +6,21 @@ use mathlib.Core.List.{List, map}
 use lib.Dec.{eqb}
 use lib.ListN.{length, take, drop}
 use Rattle.sheet.specs.Data.{type_of_byte}
-use Rattle.sheet.specs.Outcomes.{Outcome, refusal, result, followed_by}
+use Rattle.sheet.specs.Outcomes.{Outcome, refusal, result, refused_at, done_of, followed_by}
 use Rattle.sheet.specs.Sheets.{Sheet, sheet_forms, sheet_of, check_of}
 use Rattle.sheet.specs.Memory.{memory_of}
 use Rattle.sheet.specs.Rows.{inputs_of}
 use Rattle.sheet.proofs.Laws.Checked.{check_refused, CheckPassed}
 use Rattle.sheet.specs.Laws.Lists.{never}
+use Rattle.sheet.specs.Laws.Outcomes.{refused-parts}
 use Rattle.sheet.specs.declared.Datum.{Datum}
 use Rattle.sheet.specs.declared.Cell.{Cell}
+use Rattle.std.specs.Prelude.{Ok, Err}
+use Rattle.sheet.specs.declared.Refused.{Refused}
 use Rattle.sheet.specs.declared.Refusal.{Refusal}
 use Rattle.sheet.specs.declared.Refusal.TheVariants.{OutputLength}
 use Rattle.kernel.specs.Calls.{Given, given_of}
-use Rattle.buffers.specs.Tests.{tested_of, and_tested, buffers_tested}
-use Rattle.buffers.specs.declared.Tested.{Tested}
-use Rattle.buffers.specs.declared.Tested.TheVariants.{Refused, Fine}
-use Rattle.sheet.specs.Outcomes.{refused_at}
+use Rattle.buffers.specs.Tests.{Tested, and_tested, buffers_tested}
 
 -- the tests by these counts are those of the sheet
 pub own-tests : {s : List ℕ} {i w o k : ℕ} (p : CheckPassed s i w o k) (memory input output : List ℕ)
@@ -31,8 +31,8 @@ own-tests p memory input output = rw (p.types, p.outputs-are)
 
 -- what the tests of the buffers say of the outcome of the checks, once 1 to 11 are passed
 pub data Tells (sheet : Sheet) (o : Outcome Given) : Tested → Type 0 where
-  refuses : {why : Refusal} {place : ℕ} → o ≡ refusal why place → Tells sheet o (Refused why place)
-  grants : (given : Given) → o ≡ result given → given.sheet ≡ sheet → Tells sheet o Fine
+  refuses : {why : Refusal} {place : ℕ} → o ≡ refusal why place → Tells sheet o (refused_at why place)
+  grants : (given : Given) → o ≡ result given → given.sheet ≡ sheet → Tells sheet o (Ok tt)
 
 module _ (s memory input output : List ℕ) where
   pub sheet-refused : {why : Refusal} {place : ℕ} → check_of s ≡ refused_at why place → given_of s memory input output ≡ refusal why place
@@ -40,11 +40,11 @@ module _ (s memory input output : List ℕ) where
   sheet-refused e = rw (check_refused s e)
 
   module _ {sheet : Sheet} (e : sheet_of s ≡ result sheet) where
-    abbrev buffers : Tested
+    abbrev pub buffers : Tested
     buffers = buffers_tested (sheet_forms sheet) sheet.input_types (length sheet.outputs) memory input output
 
     abbrev tests : Outcome (List Cell) → Outcome (List Datum) → Bool → Tested
-    tests m i t = and_tested (tested_of m) (and_tested (tested_of i) (cond t Fine (Refused OutputLength 0)))
+    tests m i t = and_tested (done_of m) (and_tested (done_of i) (cond t (Ok tt) (refused_at OutputLength 0)))
 
     pub buffers_tell : Tells sheet (given_of s memory input output) buffers
     unfolding given_of
@@ -60,18 +60,18 @@ module _ (s memory input output : List ℕ) where
         go (result c) (result d) true = grants _ refl refl
         go (result c) (result d) false = refuses refl
 
-    pub buffers_refused : {why : Refusal} {place : ℕ} → Refused why place ≡ buffers → given_of s memory input output ≡ refusal why place
-    buffers_refused {why} {place} h = go buffers_tell h
+    pub buffers_refused : {r : Refused} → buffers ≡ Err r → given_of s memory input output ≡ refusal r.why r.place
+    buffers_refused {r} h = go buffers_tell h
       where
-        go : {x : Tested} → Tells sheet (given_of s memory input output) x → Refused why place ≡ x
-            → given_of s memory input output ≡ refusal why place
-        go (refuses f) h = f ∙ cc
+        go : {x : Tested} → Tells sheet (given_of s memory input output) x → x ≡ Err r
+            → given_of s memory input output ≡ refusal r.why r.place
+        go (refuses f) h = let (why-is, place_is) = refused-parts h in f ∙ rw (why-is, place_is)
         go (grants given f is) h = never (cc)
 
-    pub buffers_passed : Fine ≡ buffers → (given : Given) × (given_of s memory input output ≡ result given) × (given.sheet ≡ sheet)
-    buffers_passed h = go buffers_tell h
+    pub buffers_passed : {u : Unit {0}} → buffers ≡ Ok u → (given : Given) × (given_of s memory input output ≡ result given) × (given.sheet ≡ sheet)
+    buffers_passed {u} h = go buffers_tell h
       where
-        go : {x : Tested} → Tells sheet (given_of s memory input output) x → Fine ≡ x
+        go : {x : Tested} → Tells sheet (given_of s memory input output) x → x ≡ Ok u
             → (given : Given) × (given_of s memory input output ≡ result given) × (given.sheet ≡ sheet)
         go (refuses f) h = never (cc)
         go (grants given f is) h = (given, f, is)

@@ -2,66 +2,49 @@
 // on `sheet_check` for 1 to 11 and the map, which holds the forms of the cells, on `buffers` for 12 to 16, and on `leaves` for these words.
 #![tactic(auto)]
 
-ghost use Rattle.std.specs.Prelude.{◌≡◌, ◌≤◌, length};
+ghost use Rattle.std.specs.Prelude.{◌≡◌, ◌+◌, ◌≤◌, length};
 ghost use Rattle.leaves.specs.Words.{word_count, InputsPut, KeptCells, LastsPut};
-ghost use Rattle.given.specs.Grants.{Grants, parts_of};
+ghost use Rattle.given.specs.Grants.{Grants, part};
 
-use buffers::Tested;
 use leaves::{inputs, lasts};
-use sheet::Refusal;
+use sheet::Refused;
 use sheet_expressions::map::Map;
 
-// What the checks of an instant's buffers answer: the first refusal 1 to 16 with its place, or where the types of the wires and the
-// outputs stand in the sheet.
+// The parts of a sheet by which an instant of it runs: the types of the wires, and the outputs.
 #[derive(Clone, Copy)]
-pub enum Given {
-    Refused {
-        why: Refusal,
-        place: usize,
-    },
-    Passed {
-        types_from: usize,
-        types_to: usize,
-        outputs_from: usize,
-        outputs_to: usize,
-    },
+pub struct Parts<'a> {
+    pub types: &'a [u8],
+    pub outputs: &'a [u8],
 }
 
 // The checks 1 to 16 of a sheet, a memory, an input row and an output row. Where they pass, the map of the sheet's wires is drawn, and
 // the words of inputs and kept wires' cells are put; after a refusal, and beyond the sheet's wires and inputs, what map and words hold is free.
-pub fn given_of(
-    sheet: &[u8],
+pub fn given_of<'a>(
+    sheet: &'a [u8],
     memory: &[u8],
     input: &[u8],
     output: &[u8],
     map: &mut Map,
     words: &mut [u32; 144],
-) -> Given
+) -> Result<Parts<'a>, Refused>
     requires { length words.old ≡ word_count }
     ensures { Grants sheet.now memory.now input.now output.now
         map.new.places map.new.firsts map.new.reads words.new result }
 {
-    match sheet_check::check_map(sheet, map) {
-        Err(refused) => Given::Refused {
-            why: refused.why,
-            place: refused.place,
-        },
-        Ok(counts) => {
-            let inputs = counts.inputs;
-            let wires = counts.wires;
-            let outputs = counts.outputs;
-            let cells = counts.cells;
-            let types = &sheet[1..1 + inputs];
-            match buffers::check_buffers(&map.cells, cells, types, outputs, memory, input, output) {
-                Tested::Refused { why, place } => Given::Refused { why, place },
-                Tested::Fine => {
-                    let wire_types = &sheet[2 + inputs..2 + inputs + wires];
-                    put_fixed(wire_types, &map.firsts, memory, input, words);
-                    parts(inputs, wires, outputs)
-                }
-            }
-        }
-    }
+    let counts = sheet_check::check_map(sheet, map)?;
+    let types = &sheet[1..1 + counts.inputs];
+    buffers::check_buffers(
+        &map.cells,
+        counts.cells,
+        types,
+        counts.outputs,
+        memory,
+        input,
+        output,
+    )?;
+    let parts = parts_of(sheet, counts.inputs, counts.wires, counts.outputs);
+    put_fixed(parts.types, &map.firsts, memory, input, words);
+    Ok(parts)
 }
 
 // Puts the words that no round changes: those of the inputs, and those of the kept wires' cells.
@@ -76,18 +59,19 @@ fn put_fixed(types: &[u8], firsts: &[u8; 64], memory: &[u8], input: &[u8], words
     lasts::put_lasts(types, firsts, memory, words);
 }
 
-// Where the types of the wires and the outputs stand in a sheet with these counts: behind each count byte.
-fn parts(inputs: usize, wires: usize, outputs: usize) -> Given
-    requires { (inputs ≤ 16) × (wires ≤ 64) × (outputs ≤ 16) }
-    ensures { result ≡ parts_of inputs wires outputs }
+// The types of the wires and the outputs in a sheet with these counts: each behind its count byte.
+fn parts_of<'a>(sheet: &'a [u8], inputs: usize, wires: usize, outputs: usize) -> Parts<'a>
+    requires { (inputs ≤ 16) × (wires ≤ 64) × (outputs ≤ 16)
+        × (2 + inputs + wires + 1 + outputs ≤ length sheet.now) }
+    ensures types { result.types.now ≡ part sheet.now (2 + inputs) (2 + inputs + wires) }
+    ensures outputs { result.outputs.now
+        ≡ part sheet.now (2 + inputs + wires + 1) (2 + inputs + wires + 1 + outputs) }
 {
     let types_from = 2 + inputs;
     let types_to = types_from + wires;
     let outputs_from = types_to + 1;
-    Given::Passed {
-        types_from,
-        types_to,
-        outputs_from,
-        outputs_to: outputs_from + outputs,
+    Parts {
+        types: &sheet[types_from..types_to],
+        outputs: &sheet[outputs_from..outputs_from + outputs],
     }
 }

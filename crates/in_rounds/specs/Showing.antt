@@ -1,28 +1,24 @@
 -- What an instant in rounds comes to before anything is stored.
-use Rattle.std.specs.Prelude.{ℕ, ◌≡◌, List}
-use Rattle.sheet.specs.declared.Refusal.{Refusal}
+use Rattle.std.specs.Prelude.{ℕ, ◌≡◌, List, Result, Ok, Err}
+use Rattle.sheet.specs.declared.Refused.{Refused}
+use Rattle.kernel.specs.Answers.{InRounds}
 use Rattle.kernel.specs.Calls.{InstantCall, Shows}
-use Rattle.kernel.specs.declared.InRounds.{InRounds}
-use Rattle.kernel.specs.declared.InRounds.TheVariants.{Refused as RefusedInRounds, Accepted as AcceptedInRounds}
 use Rattle.rounds.specs.Settled.{Settled, stored_of}
-use Rattle.given.specs.Grants.{part, LiesIn}
 use Rattle.in_rounds.specs.declared.Shown.{Shown}
-use Rattle.in_rounds.specs.declared.Shown.TheVariants.{Refused, Accepted}
 
 -- the answer of the instant
-abbrev pub answer_of : Shown → InRounds
-answer_of (Refused why place) = RefusedInRounds why place
-answer_of (Accepted rounds from to) = AcceptedInRounds rounds
+abbrev pub rounds_of : Result Shown Refused → InRounds
+rounds_of (Err r) = Err r
+rounds_of (Ok shown) = Ok shown.rounds
 
 -- the finished values are there, and set the next memory
-pub record Ready (s memory places firsts words : List ℕ) (from to : ℕ) (next : List ℕ) : Type 0 where
-  pub within : LiesIn s from to
-  pub settled : Settled s memory (part s from to) places firsts words
+pub record Ready (s memory places firsts words types next : List ℕ) : Type 0 where
+  pub settled : Settled s memory types places firsts words
   pub stores : stored_of settled ≡ next
 
 -- the answer and the output row are those of the call; after a refusal its memory is the old one, else it is ready to be stored
-pub record Prepares (call : InstantCall InRounds) (s memory places firsts words : List ℕ) (answer : Shown) (output : List ℕ) : Type 0 where
-  pub shows : Shows call (answer_of answer) output
-  pub refused : (why : Refusal) (place : ℕ) → answer ≡ Refused why place → memory ≡ call.memory
-  pub accepted : (rounds from to : ℕ) → answer ≡ Accepted rounds from to
-      → Ready s memory places firsts words from to call.memory
+pub record Prepares (call : InstantCall InRounds) (s memory places firsts words : List ℕ) (answer : Result Shown Refused)
+    (output : List ℕ) : Type 0 where
+  pub shows : Shows call (rounds_of answer) output
+  pub refused : {r : Refused} → answer ≡ Err r → memory ≡ call.memory
+  pub accepted : {shown : Shown} → answer ≡ Ok shown → Ready s memory places firsts words shown.types.now call.memory

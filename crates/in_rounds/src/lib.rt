@@ -8,125 +8,99 @@ ghost use Rattle.kernel.specs.Calls.{rounds_call, Shows, Leaves, packed_rounds, 
 ghost use Rattle.leaves.specs.Words.{word_count};
 ghost use Rattle.in_rounds.specs.Showing.{Prepares};
 
-use given::Given;
-use kernel::InRounds;
-use sheet::Refusal;
+use sheet::{Refusal, Refused};
 use sheet_expressions::map::Map;
 
-// What an instant in rounds comes to before anything is stored: a refusal, or the rounds, and where the types of the wires stand.
+// What an instant in rounds comes to before anything is stored, where it is accepted: the rounds, and the types of the wires.
 #[derive(Clone, Copy)]
-enum Shown {
-    Refused {
-        why: Refusal,
-        place: usize,
-    },
-    Accepted {
-        rounds: usize,
-        types_from: usize,
-        types_to: usize,
-    },
+struct Shown<'a> {
+    rounds: usize,
+    types: &'a [u8],
 }
 
 // The instant in rounds: the next memory is stored, and the row gets the outputs.
-pub fn instant(sheet: &[u8], memory: &mut [u8], input: &[u8], output: &mut [u8]) -> InRounds
+pub fn instant(
+    sheet: &[u8],
+    memory: &mut [u8],
+    input: &[u8],
+    output: &mut [u8],
+) -> Result<usize, Refused>
     ensures { Leaves (rounds_call sheet.now memory.old input.now output.old)
         result memory.new output.new }
 {
     let mut map = Map::empty();
     let mut words = [0u32; 144];
-    match show(sheet, memory, input, output, &mut map, &mut words) {
-        Shown::Refused { why, place } => InRounds::Refused { why, place },
-        Shown::Accepted {
-            rounds,
-            types_from,
-            types_to,
-        } => {
-            next_memory::store(
-                sheet,
-                memory,
-                &sheet[types_from..types_to],
-                &map.places,
-                &map.firsts,
-                &words,
-            );
-            InRounds::Accepted { rounds }
-        }
-    }
+    let shown = show(sheet, memory, input, output, &mut map, &mut words)?;
+    next_memory::store(
+        sheet,
+        memory,
+        shown.types,
+        &map.places,
+        &map.firsts,
+        &words,
+    );
+    Ok(shown.rounds)
 }
 
 // The preview: the answer and the row of the instant in rounds, with the memory only read.
-pub fn preview(sheet: &[u8], memory: &[u8], input: &[u8], output: &mut [u8]) -> InRounds
+pub fn preview(
+    sheet: &[u8],
+    memory: &[u8],
+    input: &[u8],
+    output: &mut [u8],
+) -> Result<usize, Refused>
     ensures { Shows (rounds_call sheet.now memory.now input.now output.old)
         result output.new }
 {
     let mut map = Map::empty();
     let mut words = [0u32; 144];
-    match show(sheet, memory, input, output, &mut map, &mut words) {
-        Shown::Refused { why, place } => InRounds::Refused { why, place },
-        Shown::Accepted {
-            rounds,
-            types_from: _,
-            types_to: _,
-        } => InRounds::Accepted { rounds },
-    }
+    let shown = show(sheet, memory, input, output, &mut map, &mut words)?;
+    Ok(shown.rounds)
 }
 
 // All of an instant in rounds but the storing: the checks 1 to 16, the finished values, and the output row, or 20 at the wire that really
 // loops. The map and the words that it leaves are those by which the next memory is stored.
-fn show(
-    sheet: &[u8],
+fn show<'a>(
+    sheet: &'a [u8],
     memory: &[u8],
     input: &[u8],
     output: &mut [u8],
     map: &mut Map,
     words: &mut [u32; 144],
-) -> Shown
+) -> Result<Shown<'a>, Refused>
     requires { length words.old ≡ word_count }
     ensures { Prepares (rounds_call sheet.now memory.now input.now output.old)
         sheet.now memory.now map.new.places map.new.firsts words.new result output.new }
 {
-    match given::given_of(sheet, memory, input, output, map, words) {
-        Given::Refused { why, place } => Shown::Refused { why, place },
-        Given::Passed {
-            types_from,
-            types_to,
-            outputs_from,
-            outputs_to,
-        } => {
-            let types = &sheet[types_from..types_to];
-            let instant = rounds::Instant {
-                sheet,
-                memory,
-                types,
-                places: &map.places,
-                firsts: &map.firsts,
-            };
-            let solved = rounds::finish(&instant, &map.reads, words);
-            let known = solved.known;
-            if known.count() as usize == types.len() {
-                rounds::write_row(&sheet[outputs_from..outputs_to], words, output);
-                return Shown::Accepted {
-                    rounds: solved.rounds,
-                    types_from,
-                    types_to,
-                };
-            }
-            let place = waiting::lowest_waiting(&instant, known, words, &mut map.reads);
-            Shown::Refused {
-                why: Refusal::StaysUnknown,
-                place,
-            }
-        }
+    let parts = given::given_of(sheet, memory, input, output, map, words)?;
+    let types = parts.types;
+    let instant = rounds::Instant {
+        sheet,
+        memory,
+        types,
+        places: &map.places,
+        firsts: &map.firsts,
+    };
+    let solved = rounds::finish(&instant, &map.reads, words);
+    let known = solved.known;
+    if known.count() as usize != types.len() {
+        let place = waiting::lowest_waiting(&instant, known, words, &mut map.reads);
+        return Err(Refusal::StaysUnknown.at(place));
     }
+    rounds::write_row(parts.outputs, words, output);
+    Ok(Shown {
+        rounds: solved.rounds,
+        types,
+    })
 }
 
 // The answer as the number that C gets: the rounds, or the packed refusal.
-pub fn packed(answer: InRounds) -> u32
+pub fn packed(answer: Result<usize, Refused>) -> u32
     requires { Packable answer }
     ensures { result ≡ packed_rounds answer }
 {
     match answer {
-        InRounds::Refused { why, place } => why.at(place).packed(),
-        InRounds::Accepted { rounds } => rounds as u32,
+        Err(refused) => refused.packed(),
+        Ok(count) => count as u32,
     }
 }

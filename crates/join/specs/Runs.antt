@@ -1,10 +1,7 @@
 -- What is promised of an instant of the whole, beside those of the two sheets.
-use Rattle.std.specs.Prelude.{◌≡◌, ℕ, max, ◌++◌}
+use Rattle.std.specs.Prelude.{Ok, ◌≡◌, ℕ, max, ◌++◌}
 use Rattle.kernel.specs.Calls.{InstantCall}
-use Rattle.kernel.specs.declared.InRounds.{InRounds}
-use Rattle.kernel.specs.declared.InRounds.TheVariants.{Accepted}
-use Rattle.kernel.specs.declared.Scheduled.{Scheduled}
-use Rattle.kernel.specs.declared.Scheduled.TheVariants.{Accepted as AcceptedScheduled}
+use Rattle.kernel.specs.Answers.{InRounds, Scheduled}
 
 -- an answer, and memory and rows of both joined
 abbrev pub both_leave : {A B : Type 0} → A → (first second : InstantCall B) → InstantCall A
@@ -13,12 +10,12 @@ both_leave answer first second =
 
 -- in rounds it is accepted exactly if both are; then memory and rows are the two joined, and its rounds are the larger count
 pub record RoundsJoined (whole first second : InstantCall InRounds) : Type 0 where
-  pub both : {one other : ℕ} → first.answer ≡ Accepted one → second.answer ≡ Accepted other
-      → whole ≡ both_leave (Accepted (max one other)) first second
-  pub parts : {count : ℕ} → whole.answer ≡ Accepted count
-      → (one : ℕ) × (other : ℕ) × (first.answer ≡ Accepted one) × (second.answer ≡ Accepted other)
+  pub both : {one other : ℕ} → first.answer ≡ Ok one → second.answer ≡ Ok other
+      → whole ≡ both_leave (Ok (max one other)) first second
+  pub parts : {count : ℕ} → whole.answer ≡ Ok count
+      → (one : ℕ) × (other : ℕ) × (first.answer ≡ Ok one) × (second.answer ≡ Ok other)
 
 -- and so it is along a joined schedule
 pub record ScheduledJoined (whole first second : InstantCall Scheduled) : Type 0 where
-  pub both : first.answer ≡ AcceptedScheduled → second.answer ≡ AcceptedScheduled → whole ≡ both_leave AcceptedScheduled first second
-  pub parts : whole.answer ≡ AcceptedScheduled → (first.answer ≡ AcceptedScheduled) × (second.answer ≡ AcceptedScheduled)
+  pub both : first.answer ≡ Ok tt → second.answer ≡ Ok tt → whole ≡ both_leave (Ok tt) first second
+  pub parts : whole.answer ≡ Ok tt → (first.answer ≡ Ok tt) × (second.answer ≡ Ok tt)

@@ -1,6 +1,6 @@
 -- The two instants as calls: from all buffers to the answer and what the buffers hold, refusals included.
-use Rattle.std.specs.Prelude.{ℕ, ◌*◌, ◌<◌, ◌≡◌, Bool, cond, List, ltb, length}
-use Rattle.sheet.specs.Outcomes.{Outcome, refusal, result, followed_by, holds_after, lowest, unless_length, packed_refusal}
+use Rattle.std.specs.Prelude.{ℕ, ◌*◌, ◌<◌, ◌≡◌, Bool, cond, List, Ok, Err, ltb, length}
+use Rattle.sheet.specs.Outcomes.{Outcome, refusal, result, answer_of, done_of, followed_by, holds_after, lowest, unless_length, packed_answer}
 use Rattle.sheet.specs.Sheets.{Sheet, sheet_forms, sheet_of}
 use Rattle.sheet.specs.Memory.{memory_of, memory_bytes}
 use Rattle.sheet.specs.Rows.{inputs_of, row_bytes}
@@ -13,10 +13,7 @@ use Rattle.kernel.specs.Instants.{wire_count, under, rounds, finished, next_memo
 use Rattle.kernel.specs.Waits.{lowest_waiting}
 use Rattle.kernel.specs.Schedules.{schedule_of, pass}
 use Rattle.kernel.specs.declared.Value.{Value}
-use Rattle.kernel.specs.declared.InRounds.{InRounds}
-use Rattle.kernel.specs.declared.InRounds.TheVariants.{Refused as RefusedInRounds, Accepted as AcceptedInRounds}
-use Rattle.kernel.specs.declared.Scheduled.{Scheduled}
-use Rattle.kernel.specs.declared.Scheduled.TheVariants.{Refused as RefusedScheduled, Accepted as AcceptedScheduled}
+use Rattle.kernel.specs.Answers.{InRounds, Scheduled}
 
 -- what an instant works on once 1 to 16 are passed
 pub record Given : Type 0 where
@@ -88,12 +85,10 @@ left_by answer o memory output =
     record { answer = answer o; memory = holds_after o (λ a. a.memory) memory; output = holds_after o (λ a. a.output) output }
 
 abbrev pub rounds_answer : Outcome Accepted → InRounds
-rounds_answer (refusal why place) = RefusedInRounds why place
-rounds_answer (result a) = AcceptedInRounds a.rounds
+rounds_answer o = answer_of (followed_by o (λ a. result a.rounds))
 
 abbrev pub scheduled_answer : Outcome Accepted → Scheduled
-scheduled_answer (refusal why place) = RefusedScheduled why place
-scheduled_answer (result a) = AcceptedScheduled
+scheduled_answer = done_of
 
 unfoldable pub rounds_call : (s memory input output : List ℕ) → InstantCall InRounds
 rounds_call s memory input output =
@@ -105,14 +100,12 @@ scheduled_call s memory input output list =
 
 -- the numbers that the C library returns: the rounds, and 0
 abbrev pub packed_rounds : InRounds → ℕ
-packed_rounds (RefusedInRounds why place) = packed_refusal why place
-packed_rounds (AcceptedInRounds rounds) = rounds
+packed_rounds = packed_answer (λ rounds. rounds)
 
 -- place and rounds have room in such a number
 abbrev pub Packable : InRounds → Type 0
-Packable (RefusedInRounds why place) = place < 65536
-Packable (AcceptedInRounds rounds) = rounds < 65536
+Packable (Err refused) = refused.place < 65536
+Packable (Ok rounds) = rounds < 65536
 
 abbrev pub packed_scheduled : Scheduled → ℕ
-packed_scheduled (RefusedScheduled why place) = packed_refusal why place
-packed_scheduled AcceptedScheduled = 0
+packed_scheduled = packed_answer (λ accepted. 0)

@@ -27,7 +27,7 @@ use Rattle.kernel.specs.Waits.{wires_awaited, waits_for, lowest_waiting}
 use Rattle.kernel.specs.Instants.{reads_at, value_of_wire, values, stored_cells, lasts_from, round, rounds, finished, next_memory, output_row}
 use Rattle.kernel.specs.Schedules.{not_new, too_early, schedule_of, pass_from, pass}
 use Rattle.kernel.specs.Systems as System
-use Rattle.kernel.specs.declared.InRounds.{InRounds}
+use Rattle.kernel.specs.Answers.{InRounds}
 use Rattle.sheet.specs.declared.Counts.{Counts}
 use Rattle.sheet.specs.declared.Refused.{Refused}
 use Rattle.std.specs.Prelude.{Ok, Err}

@@ -9,5 +9,6 @@ pub mod Instants
 pub mod Waits
 pub mod Schedules
 pub mod Depths
+pub mod Answers
 pub mod Calls
 pub mod Cases

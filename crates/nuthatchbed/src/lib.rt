@@ -7,7 +7,6 @@ ghost use Rattle.sheet.specs.Sheets.{check_of, packed_checked};
 ghost use Rattle.sheet.specs.Memory.{start_call, packed_started};
 ghost use Rattle.kernel.specs.Calls.{rounds_call, scheduled_call, packed_rounds, packed_scheduled};
 
-use kernel::Scheduled;
 
 // The check: the cells, or a refusal.
 #[unsafe(no_mangle)]
@@ -67,7 +66,7 @@ pub extern "C" fn nuthatchbed_scheduled(
         output.old schedule.now).output }
 {
     match along_schedule::instant(sheet, memory, input, output, schedule) {
-        Scheduled::Refused { why, place } => why.at(place).packed(),
-        Scheduled::Accepted => 0,
+        Err(refused) => refused.packed(),
+        Ok(()) => 0,
     }
 }

@@ -1,4 +1,6 @@
 -- The lines of the instants: the bytes not used where none is due, else the next one, with the progress after it.
+use Rattle.std.specs.Prelude.{Ok}
+use Rattle.sheet.specs.Outcomes.{refused_at, number_of}
 use Prim.Native.Nat.{ℕ, zero, suc, ◌+◌, ◌-◌, ◌*◌, ◌≤◌, ◌<◌}
 use mathlib.Core.Path.{◌≡◌, refl, ap, sym, ◌∙◌}
 use mathlib.Core.List.{List, [], ◌∷◌, ◌++◌}
@@ -6,11 +8,9 @@ use native.Mathlib.Omega.{arith}
 use native.Mathlib.Nat.{suc-mul}
 use lib.ListN.{length, take, drop, length-drop}
 use lib.Seq.{drop-drop}
-use Rattle.sheet.specs.Outcomes.{number_of}
 use Rattle.sheet.specs.declared.Refusal.{Refusal}
 use Rattle.kernel.specs.Calls.{InstantCall, rounds_call, Leaves}
-use Rattle.kernel.specs.declared.InRounds.{InRounds}
-use Rattle.kernel.specs.declared.InRounds.TheVariants.{Refused, Accepted}
+use Rattle.kernel.specs.Answers.{InRounds}
 use Rattle.lines.specs.Buffers.{Holds}
 use Rattle.text.specs.Pieces.{numbers_of}
 use Rattle.lines.specs.Lines.{refused_line, left_line, row_line}
@@ -90,11 +90,11 @@ module _ (bytes : List ℕ) (p : Progress) (ready : Ready bytes p) (some : 0 < p
       own : Leaves due-call answer stored written
       own = rw same-call at left
 
-      pub refused-text : {why : Refusal} {place : ℕ} → answer ≡ Refused why place
+      pub refused-text : {why : Refusal} {place : ℕ} → answer ≡ refused_at why place
           → lines_left bytes (Playing p) memory ≡ refused_line (number_of why) place ∷ []
       refused-text e = instant_text_lem ∙ rw (sym own.answers ∙ e)
 
-      pub accepted-line : {rounds size : ℕ} {next : Progress} {before text : List ℕ} → answer ≡ Accepted rounds → 320 ≤ length memory
+      pub accepted-line : {rounds size : ℕ} {next : Progress} {before text : List ℕ} → answer ≡ Ok rounds → 320 ≤ length memory
           → length stored ≡ length (take p.memory memory) → length written ≡ length (take p.output (zeros 64))
           → next ≡ next_instant p
           → Holds before (row_line p.turn (numbers_of (take p.output (written ++ drop p.output (zeros 64))))) text size

@@ -1,12 +1,12 @@
 -- What the player prints: from the bytes of its input to the lines of its text. Each part stands before the whole, so that document 01,
 -- "The player", is read from the last definition up. Rests on `lines` for the lines, and on the calls that `sheet` and `kernel` define.
+use Rattle.std.specs.Prelude.{Ok, Err}
 use Rattle.std.specs.Prelude.{ℕ, zero, suc, ◌+◌, ◌*◌, ◌/◌, Bool, cond, ◌&&◌, List, [], ◌∷◌, length, get_or, take, drop, replicate, eqb, leb}
 use Rattle.sheet.specs.Outcomes.{number_of}
 use Rattle.sheet.specs.Sheets.{check_of}
 use Rattle.sheet.specs.Memory.{start_call}
 use Rattle.kernel.specs.Calls.{InstantCall, rounds_call}
-use Rattle.kernel.specs.declared.InRounds.{InRounds}
-use Rattle.kernel.specs.declared.InRounds.TheVariants.{Refused as RefusedInRounds, Accepted}
+use Rattle.kernel.specs.Answers.{InRounds}
 use Rattle.text.specs.Pieces.{numbers_of}
 use Rattle.lines.specs.Lines.{short_line, refused_line, sheet_line, left_line, row_line}
 use Rattle.sheet.specs.declared.Counts.{Counts}
@@ -39,8 +39,8 @@ instants_due size bytes = cond (eqb size 0) 16 (bytes / size)
 
 -- an instant's line, and those of the instants behind it; a refused instant ends the printing
 abbrev pub instant_text : InRounds → (row : List ℕ) → (rest : List (List ℕ)) → List (List ℕ)
-instant_text (RefusedInRounds why place) row rest = refused_line (number_of why) place ∷ []
-instant_text (Accepted rounds) row rest = row ∷ rest
+instant_text (Err r) row rest = refused_line (number_of r.why) r.place ∷ []
+instant_text (Ok rounds) row rest = row ∷ rest
 
 -- the instants of a sheet whose rows have so many bytes: as many as are due, from instant `turn` on, and last the bytes not used
 module _ (s : List ℕ) (inputSize output_size : ℕ) where

@@ -10,7 +10,6 @@ ghost use Rattle.lines.specs.Lines.{refused_line};
 ghost use Rattle.play.specs.Text.{played, length_at, sheet_in, rows_in, instants_due, is_complete, checked_text, bytes_text};
 ghost use Rattle.play.specs.Stages.{first_instant, next_instant, lines_left, Ready, Between, Gives, Room};
 
-use kernel::InRounds;
 use sheet::Refusal;
 
 // Where the player stands between two lines.
@@ -204,8 +203,8 @@ fn row_line(bytes: &[u8], progress: Progress, memory: &mut [u8], text: &mut [u8]
         &bytes[at..next],
         &mut output[..row_size],
     ) {
-        InRounds::Refused { why, place } => final_line(refused_line(text, why, place)),
-        InRounds::Accepted { rounds: _ } => {
+        Err(refused) => final_line(refused_line(text, refused.why, refused.place)),
+        Ok(_) => {
             let size = lines::row_line(text, progress.turn, &output[..row_size]);
             let progress = next_instant(progress);
             Some(Line {

@@ -3,13 +3,14 @@ use Prim.Native.Nat.{ℕ, ◌+◌, ◌≤◌, ◌<◌}
 use mathlib.Core.Path.{◌≡◌, sym, ap}
 use mathlib.Core.Bool.{Bool, true, false, not, ◌||◌}
 use mathlib.Core.List.{List}
+use Rattle.std.specs.Prelude.{Ok}
 use native.Mathlib.Numerals.{add-one}
 use native.Mathlib.Omega.{arith}
 use lib.Dec.{eqb, ltb}
 use lib.ListN.{length, take}
 use lib.Seq.{take-suc}
 use borrow.Author.Tests.{eq-eqb, ne_eqb, lt-ltb, le-ltb, ltb-true, not-false}
-use Rattle.sheet.specs.Outcomes.{result, lowest, unless_length, unless_any}
+use Rattle.sheet.specs.Outcomes.{result, refused_at, done_of, lowest, unless_length, unless_any}
 use Rattle.sheet.specs.Sheets.{Sheet}
 use Rattle.sheet.specs.Laws.Lowest.{lowest-first}
 use Rattle.sheet.specs.declared.Refusal.TheVariants.{ScheduleLength, ScheduleEntry, ScheduleOrder}
@@ -20,8 +21,6 @@ use Rattle.sheet.specs.Lists.{among}
 use Rattle.sheet.specs.Laws.Lists.{neither}
 use Rattle.kernel.specs.Instants.{reads_at}
 use Rattle.kernel.specs.Schedules.{entry_at, not_new, too_early, schedule_of}
-use Rattle.schedule.specs.Orders.{ordered_answer}
-use Rattle.schedule.specs.declared.Ordered.TheVariants.{Refused, Passed}
 
 -- the set holds just the entries before a position
 pub record Holds (list : List ℕ) (p bits : ℕ) : Type 0 where
@@ -69,17 +68,17 @@ module _ (sheet : Sheet) (list : List ℕ) (wires : ℕ) (are : length sheet.exp
   unfolding schedule_of
   outcome_is = rw are
 
-  pub refused_17 : (length list ≡ wires → ⊥) → Refused ScheduleLength 0 ≡ ordered_answer (schedule_of sheet list)
+  pub refused_17 : (length list ≡ wires → ⊥) → refused_at ScheduleLength 0 ≡ done_of (schedule_of sheet list)
   refused_17 other = rw (outcome_is, ne_eqb (length list) wires other)
 
   module _ (sized : length list ≡ wires) {entry : ℕ} (first : entry ≡ lowest (not_new list wires) wires) where
-    pub refused_18 : entry < wires → Refused ScheduleEntry entry ≡ ordered_answer (schedule_of sheet list)
+    pub refused_18 : entry < wires → refused_at ScheduleEntry entry ≡ done_of (schedule_of sheet list)
     refused_18 below = rw (outcome_is, eq-eqb (length list) wires sized, ← first, lt-ltb entry wires below)
 
     module _ (none : wires ≤ entry) {early : ℕ} (low : early ≡ lowest (too_early list reads_of) wires) where
-      pub refused_19 : early < wires → Refused ScheduleOrder early ≡ ordered_answer (schedule_of sheet list)
+      pub refused_19 : early < wires → refused_at ScheduleOrder early ≡ done_of (schedule_of sheet list)
       refused_19 below =
           rw (outcome_is, eq-eqb (length list) wires sized, ← first, le-ltb entry wires none, ← low, lt-ltb early wires below)
 
-      pub passed : wires ≤ early → Passed ≡ ordered_answer (schedule_of sheet list)
+      pub passed : wires ≤ early → Ok tt ≡ done_of (schedule_of sheet list)
       passed past = rw (outcome_is, eq-eqb (length list) wires sized, ← first, le-ltb entry wires none, ← low, le-ltb early wires past)

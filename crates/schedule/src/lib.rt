@@ -2,22 +2,14 @@
 #![tactic(auto)]
 
 ghost use Rattle.std.specs.Prelude.{◌≡◌, List, ℕ, ◌<◌, ◌≤◌, length};
-ghost use Rattle.sheet.specs.Outcomes.{lowest};
+ghost use Rattle.sheet.specs.Outcomes.{done_of, lowest};
 ghost use Rattle.sheet.specs.Sheets.{Sheet};
 ghost use Rattle.sheet_expressions.specs.Map.{EachHoldsJust};
 ghost use Rattle.kernel.specs.Instants.{reads_at};
 ghost use Rattle.kernel.specs.Schedules.{entry_at, not_new, too_early, schedule_of};
-ghost use Rattle.schedule.specs.Orders.{ordered_answer};
 
-use sheet::Refusal;
+use sheet::{Refusal, Refused};
 use wires::Wires;
-
-// What the checks of a schedule answer.
-#[derive(Clone, Copy)]
-pub enum Ordered {
-    Refused { why: Refusal, place: usize },
-    Passed,
-}
 
 // The first position whose entry is none of the wires or was named before; the count of the wires where there is none.
 fn first_not_new(list: &[u8], wires: usize) -> usize
@@ -25,8 +17,7 @@ fn first_not_new(list: &[u8], wires: usize) -> usize
     ensures { result ≡ lowest (not_new list.now wires) wires }
 {
     let mut named = Wires::none();
-    let mut p = 0;
-    while p < wires {
+    for p in 0..wires {
         let wire = list[p] as usize;
         if wires <= wire {
             return p;
@@ -35,9 +26,8 @@ fn first_not_new(list: &[u8], wires: usize) -> usize
             return p;
         }
         named = named.with(wire);
-        p += 1;
     }
-    p
+    wires
 }
 
 // The first position whose wire reads, within the instant, a wire not named before it; the count of the wires where there is none.
@@ -47,8 +37,7 @@ fn first_too_early(list: &[u8], wires: usize, reads: &[u64; 64]) -> usize
         → result ≡ lowest (too_early list.now reads_of) wires }
 {
     let mut named = Wires::none();
-    let mut p = 0;
-    while p < wires {
+    for p in 0..wires {
         let wire = list[p] as usize;
         let bits = reads[wire];
         let read = Wires { bits };
@@ -57,37 +46,27 @@ fn first_too_early(list: &[u8], wires: usize, reads: &[u64; 64]) -> usize
             return p;
         }
         named = grown;
-        p += 1;
     }
-    p
+    wires
 }
 
 // The checks of `list` as a schedule of wires, each of which reads within the instant what its set holds.
-pub fn check_schedule(list: &[u8], wires: usize, reads: &[u64; 64]) -> Ordered
+pub fn check_schedule(list: &[u8], wires: usize, reads: &[u64; 64]) -> Result<(), Refused>
     requires { wires ≤ 64 }
     ensures { (s : Sheet) → length s.expressions ≡ wires
         → EachHoldsJust reads.now wires (reads_at s.expressions)
-        → result ≡ ordered_answer (schedule_of s list.now) }
+        → result ≡ done_of (schedule_of s list.now) }
 {
     if list.len() != wires {
-        return Ordered::Refused {
-            why: Refusal::ScheduleLength,
-            place: 0,
-        };
+        return Err(Refusal::ScheduleLength.at(0));
     }
     let entry = first_not_new(list, wires);
     if entry < wires {
-        return Ordered::Refused {
-            why: Refusal::ScheduleEntry,
-            place: entry,
-        };
+        return Err(Refusal::ScheduleEntry.at(entry));
     }
     let early = first_too_early(list, wires, reads);
     if early < wires {
-        return Ordered::Refused {
-            why: Refusal::ScheduleOrder,
-            place: early,
-        };
+        return Err(Refusal::ScheduleOrder.at(early));
     }
-    Ordered::Passed
+    Ok(())
 }

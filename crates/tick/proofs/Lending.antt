@@ -12,7 +12,7 @@ use Rattle.sheet.specs.Laws.Outcomes.{length-passed}
 use Rattle.sheet.specs.Rows.{inputs_of}
 use Rattle.sheet.specs.declared.Refusal.TheVariants.{InputLength}
 use Rattle.kernel.specs.Calls.{Leaves}
-use Rattle.kernel.specs.declared.InRounds.{InRounds}
+use Rattle.kernel.specs.Answers.{InRounds}
 use Rattle.board.specs.Boards.{length_at, length_place, bytes_of}
 use Rattle.board.specs.Parts.{joined, sheet_at, inputs_in, outputs_in, begin, size, cut, put, part, with_part, memory_part}
 use Rattle.board.specs.Serving.{every_cell, served_call}

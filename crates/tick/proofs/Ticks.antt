@@ -13,7 +13,7 @@ use Rattle.sheet.specs.Sheets.{Sheet}
 use Rattle.sheet.specs.Laws.Lists.{never}
 use Rattle.sheet.specs.Laws.Outcomes.{same-result}
 use Rattle.sheet.specs.declared.Refused.{Refused}
-use Rattle.kernel.specs.declared.InRounds.{InRounds}
+use Rattle.kernel.specs.Answers.{InRounds}
 use Rattle.board.specs.Boards.{frame_of, board_of}
 use Rattle.board.specs.Marks.{marked, marks_of}
 use Rattle.board.specs.Parts.{passed_of}

@@ -4,7 +4,7 @@ use Rattle.sheet.specs.Outcomes.{result}
 use Rattle.sheet.specs.Sheets.{Sheet, sheet_forms}
 use Rattle.sheet.specs.declared.Refused.{Refused}
 use Rattle.kernel.specs.Calls.{InstantCall}
-use Rattle.kernel.specs.declared.InRounds.{InRounds}
+use Rattle.kernel.specs.Answers.{InRounds}
 use Rattle.board.specs.Boards.{bytes_of}
 use Rattle.board.specs.Parts.{memory_part, input_part, output_part, with_part, outputs_in, passed_of}
 use Rattle.board.specs.Serving.{every_cell, served_call}

@@ -9,7 +9,6 @@ ghost use Rattle.tick.specs.Ticking.{turn_of, Leaves, Parted, ServesPart};
 
 use board::{Standing, Ticked};
 use board_check::Span;
-use kernel::InRounds;
 use sheet::{Refusal, Refused};
 
 // The tick: 22, 1 to 11 of each sheet and 12 to 16 of the whole refuse it, and then nothing is changed, marks and number neither; else the
@@ -43,12 +42,15 @@ pub fn tick(
 }
 
 // What a tick answers that serves a sheet, by its instant.
-fn served(sheet: usize, answer: InRounds) -> Ticked
+fn served(sheet: usize, answer: Result<usize, Refused>) -> Ticked
     ensures { result ≡ served_answer sheet answer }
 {
     match answer {
-        InRounds::Refused { why: _, place } => Ticked::LeftUnknown { sheet, wire: place },
-        InRounds::Accepted { rounds } => Ticked::Served { sheet, rounds },
+        Err(refused) => Ticked::LeftUnknown {
+            sheet,
+            wire: refused.place,
+        },
+        Ok(rounds) => Ticked::Served { sheet, rounds },
     }
 }
 
@@ -60,7 +62,7 @@ fn serve_part(
     output: &mut [u8],
     span: Span,
     restarts: bool,
-) -> InRounds
+) -> Result<usize, Refused>
     requires { Parted board.now memory.old input.now output.old span }
     ensures { (p : Parted board.now memory.old input.now output.old span)
         → ServesPart p restarts result memory.new output.new }

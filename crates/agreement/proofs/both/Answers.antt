@@ -1,21 +1,15 @@
--- `both` meets its contract.
-use Rattle.agreement.proofs.Agreeing.{first-refused, second-refused, none-refused, beside, agreed}
+-- `both` meets its contract: demand 3 of what the two calls leave side by side.
+use Rattle.agreement.proofs.Agreeing.{beside, agreed}
 use Rattle.agreement.proofs.both.Goals as goal
 
-pub returns-in_default : goal.returns-in_default
-returns-in_default c =
-    let e = first-refused c.instant-along.result c.in_default.is in
-    let b = beside c.instant-in_turn.ensures c.instant-along.ensures e in
-    record { beside = b; agreed = λ g. agreed b g }
+pub returns-in-Ok-Ok-clause-agreed : goal.returns-in-Ok-Ok-clause-agreed
+returns-in-Ok-Ok-clause-agreed c =
+    agreed (beside c.instant-in_turn.ensures c.instant-along.ensures (rw (c.in-Ok-Ok.is-0, c.in-Ok-Ok.is-1)))
 
-pub returns-in_default-along : goal.returns-in_default-along
-returns-in_default-along c =
-    let e = second-refused c.in-Accepted.is c.in_default-along.is in
-    let b = beside c.instant-in_turn.ensures c.instant-along.ensures e in
-    record { beside = b; agreed = λ g. agreed b g }
+pub returns-in_default-clause-agreed : goal.returns-in_default-clause-agreed
+returns-in_default-clause-agreed c =
+    agreed (beside c.instant-in_turn.ensures c.instant-along.ensures (rw (c.in_default.is-0, c.in_default.is-1)))
 
-pub returns : goal.returns
-returns c =
-    let e = none-refused c.in-Accepted.is c.in-Accepted-along.is in
-    let b = beside c.instant-in_turn.ensures c.instant-along.ensures e in
-    record { beside = b; agreed = λ g. agreed b g }
+pub returns-in_default-2-clause-agreed : goal.returns-in_default-2-clause-agreed
+returns-in_default-2-clause-agreed c =
+    agreed (beside c.instant-in_turn.ensures c.instant-along.ensures (rw c.in_default.is-0))

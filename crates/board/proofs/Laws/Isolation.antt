@@ -1,5 +1,5 @@
 -- Isolation: what a sheet of a board gives goes by the board, the marks, the number and its own parts, and by nothing else.
-use Rattle.std.specs.Prelude.{◌≡◌, Bool, List, Ok, ltb, length}
+use Rattle.std.specs.Prelude.{Ok, Err, ◌≡◌, Bool, List, ltb, length}
 use Rattle.std.proofs.Math.Path.{refl, sym, ap}
 use Rattle.std.proofs.Common.{◌∙◌}
 use Prim.Native.Nat.{ℕ, ◌<◌}
@@ -10,8 +10,7 @@ use Rattle.sheet.specs.Outcomes.{result}
 use Rattle.sheet.specs.Sheets.{Sheet}
 use Rattle.sheet.specs.Laws.Lists.{never}
 use Rattle.kernel.specs.Calls.{InstantCall}
-use Rattle.kernel.specs.declared.InRounds.{InRounds}
-use Rattle.kernel.specs.declared.InRounds.TheVariants.{Refused as RefusedInRounds, Accepted as AcceptedInRounds}
+use Rattle.kernel.specs.Answers.{InRounds}
 use Rattle.board.specs.Parts.{memory_part, output_part}
 use Rattle.board.specs.Serving.{Restart}
 use Rattle.board.specs.Ticks.{Turn, found_by, is_due, due_sheet, served_answer, instant_of, serve, tick_call}
@@ -25,8 +24,8 @@ use Rattle.board.proofs.Laws.Ticks.{Serves, tick_serves, tick_by, others-kept}
 
 -- whether sheet j is the served one goes by its number alone
 serves-number : (j k : ℕ) (instant : InRounds) → serves j (Ok (served_answer k instant)) ≡ eqb k j
-serves-number j k (RefusedInRounds why wire) = refl
-serves-number j k (AcceptedInRounds rounds) = refl
+serves-number j k (Err refused) = refl
+serves-number j k (Ok rounds) = refl
 
 module _ (rule : Restart) (isRestart : IsRestart rule) (board : List ℕ) (one other : Turn) (standing : Standing) (sheets found : List Sheet)
     (passes : found_by board one ≡ result sheets) (valid : found_by board other ≡ result found)

@@ -1,5 +1,5 @@
 -- Service: a due sheet is served within as many ticks as there are sheets, the marking one included.
-use Rattle.std.specs.Prelude.{◌≡◌, ℕ, ◌+◌, ◌≤◌, ◌<◌, Bool, false, Ok, cond}
+use Rattle.std.specs.Prelude.{Ok, Err, ◌≡◌, ℕ, ◌+◌, ◌≤◌, ◌<◌, Bool, false, cond}
 use Rattle.std.proofs.Math.Path.{refl, sym}
 use Rattle.std.proofs.Common.{◌∙◌, arith}
 use Rattle.std.proofs.Math.Bool.{true, or-true}
@@ -9,8 +9,7 @@ use borrow.Author.Tests.{eq-eqb, ne_eqb, lt-ltb}
 use Rattle.sheet.specs.Outcomes.{Outcome, refusal, result}
 use Rattle.sheet.specs.Sheets.{Sheet}
 use Rattle.sheet.specs.Laws.Lists.{never}
-use Rattle.kernel.specs.declared.InRounds.{InRounds}
-use Rattle.kernel.specs.declared.InRounds.TheVariants.{Refused as RefusedInRounds, Accepted as AcceptedInRounds}
+use Rattle.kernel.specs.Answers.{InRounds}
 use Rattle.board.specs.Boards.{board_of}
 use Rattle.board.specs.Marks.{marked, served_last}
 use Rattle.board.specs.Serving.{Restart}
@@ -22,8 +21,8 @@ use Rattle.board.proofs.Laws.Marks.{Behind, onward, around, behind-some, last-se
 use Rattle.board.proofs.Laws.Ticks.{Serves, tick_serves, stands-behind}
 
 answers-served : (k : ℕ) (instant : InRounds) → serves k (Ok (served_answer k instant)) ≡ true
-answers-served k (RefusedInRounds why wire) = eq-eqb k k refl
-answers-served k (AcceptedInRounds rounds) = eq-eqb k k refl
+answers-served k (Err refused) = eq-eqb k k refl
+answers-served k (Ok rounds) = eq-eqb k k refl
 
 counts-one : (t : Bool) → cond t 0 1 ≤ 1
 counts-one true = omega arith

@@ -1,16 +1,16 @@
 -- A served sheet: its own parts pass 12 to 16, also from its starting memory, so that its instant is accepted or refused with 20; what it leaves has the
 -- lengths of its parts, and its memory passes 12 and 13 again.
-use Rattle.std.specs.Prelude.{◌≡◌, refl, ◌⊎◌, ℕ, ◌*◌, ◌<◌, Bool, true, false, List}
+use Rattle.std.specs.Prelude.{Ok, Err, ◌≡◌, refl, ◌⊎◌, ℕ, ◌*◌, ◌<◌, Bool, true, false, List}
+use Rattle.sheet.specs.Outcomes.{refused_at, Outcome, refusal, result, followed_by, holds_after}
 use Rattle.std.proofs.Common.{sym, ◌∙◌, inl, inr, eq-eqb}
 use Rattle.std.proofs.Math.Path.{ap}
 use Rattle.std.proofs.Math.ListN.{length, length-map}
-use Rattle.sheet.specs.Outcomes.{Outcome, refusal, result, followed_by, holds_after}
 use Rattle.sheet.specs.Sheets.{Sheet, sheet_forms, sheet_of}
 use Rattle.sheet.specs.Memory.{memory_of, start_memory, start_outcome, start_call}
 use Rattle.sheet.specs.Rows.{inputs_of}
 use Rattle.sheet.specs.Laws.Lists.{never}
 use Rattle.sheet.proofs.Laws.Memory.{memory_view, memory_back, row-length, start_memory_valid}
-use Rattle.sheet.specs.Laws.Outcomes.{no_result, same-result}
+use Rattle.sheet.specs.Laws.Outcomes.{refused-parts, no_result, same-result}
 use Rattle.sheet.proofs.Laws.Typing.{checked_well_typed}
 use Rattle.sheet.specs.declared.Cell.{Cell}
 use Rattle.sheet.specs.declared.Datum.{Datum}
@@ -21,8 +21,7 @@ use Rattle.kernel.specs.Calls.{Given, given_of, Accepted as Gives, in_rounds, In
 use Rattle.kernel.proofs.Laws.Accepted.{memory_after_lem}
 use Rattle.kernel.proofs.Laws.Answers.{RefusedBefore, demand2_answered}
 use Rattle.kernel.proofs.Laws.Given.{by-given}
-use Rattle.kernel.specs.declared.InRounds.{InRounds}
-use Rattle.kernel.specs.declared.InRounds.TheVariants.{Refused, Accepted}
+use Rattle.kernel.specs.Answers.{InRounds}
 use Rattle.board.specs.Boards.{bytes_of}
 use Rattle.board.specs.Parts.{sheet_at, memory_part, input_part, output_part}
 use Rattle.board.specs.Marks.{marked}
@@ -55,12 +54,12 @@ runs-from-valid rule isRestart true s own sheet cells read held = isRestart.vali
 runs-from-valid rule isRestart false s own sheet cells read held = (cells, held)
 
 -- What a refused instant leaves of the output row.
-refused-row : (s memory input output : List ℕ) {why : Refusal} {place : ℕ} → (rounds_call s memory input output).answer ≡ Refused why place
+refused-row : (s memory input output : List ℕ) {why : Refusal} {place : ℕ} → (rounds_call s memory input output).answer ≡ refused_at why place
     → (rounds_call s memory input output).output ≡ output
 unfolding rounds_call
 refused-row s memory input output {why} {place} e = go (followed_by (given_of s memory input output) in_rounds) e
   where
-    go : (o : Outcome Gives) → rounds_answer o ≡ Refused why place → holds_after o (λ a. a.output) output ≡ output
+    go : (o : Outcome Gives) → rounds_answer o ≡ refused_at why place → holds_after o (λ a. a.output) output ≡ output
     go (refusal found at) e = refl
     go (result a) e = never (cc)
 
@@ -69,7 +68,7 @@ pub record ServedWell (sheet : Sheet) (own output : List ℕ) (instant : Instant
   pub memory_size : length instant.memory ≡ 5 * length (sheet_forms sheet)
   pub output_size : length instant.output ≡ 4 * length sheet.outputs
   pub reads : (cells : List Cell) × (memory_of (sheet_forms sheet) instant.memory ≡ result cells)
-  pub unknown : {why : Refusal} {place : ℕ} → instant.answer ≡ Refused why place
+  pub unknown : {why : Refusal} {place : ℕ} → instant.answer ≡ refused_at why place
       → (why ≡ StaysUnknown) × (instant.memory ≡ own) × (instant.output ≡ output)
 
 -- a sheet with parts that pass
@@ -89,7 +88,7 @@ module _ {s own from input output : List ℕ} {sheet : Sheet} (ready : Ready s o
   ready-given = by-given (record { sheet = ready.read; cells = ready.from_cells.1; inputs = ready.inputs.1; outputs = ready.outputs })
 
   -- so it is refused with 20, or accepted
-  refused-only : {why : Refusal} {place : ℕ} → (rounds_call s from input output).answer ≡ Refused why place → why ≡ StaysUnknown
+  refused-only : {why : Refusal} {place : ℕ} → (rounds_call s from input output).answer ≡ refused_at why place → why ≡ StaysUnknown
   refused-only {why} {place} e = go ((demand2_answered s from input output).refused why place e)
     where
       go : (why ≡ StaysUnknown) ⊎ RefusedBefore s from input output why place → why ≡ StaysUnknown
@@ -97,9 +96,9 @@ module _ {s own from input output : List ℕ} {sheet : Sheet} (ready : Ready s o
       go (inr before) = no_result (sym before.refused ∙ ready-given)
 
   -- an accepted one leaves what passes again
-  accepted_well : {rounds : ℕ} → (rounds_call s from input output).answer ≡ Accepted rounds
+  accepted_well : {rounds : ℕ} → (rounds_call s from input output).answer ≡ Ok rounds
       → ServedWell sheet own output (record {
-        answer = Accepted rounds;
+        answer = Ok rounds;
         memory = (rounds_call s from input output).memory;
         output = (rounds_call s from input output).output;
       })
@@ -130,15 +129,15 @@ module _ {s own from input output : List ℕ} {sheet : Sheet} (ready : Ready s o
             memory = stored_in answer (rounds_call s from input output).memory own;
             output = (rounds_call s from input output).output;
           })
-      go (Refused why place) e =
+      go (Err refused) e =
           let row = refused-row s from input output e in
           record {
             memory_size = (memory_view (sheet_forms sheet) own ready.own_cells.1).sized;
             output_size = rw row ready.outputs;
             reads = ready.own_cells;
-            unknown = λ {why = found} f. let is : found ≡ why = cc in (is ∙ refused-only e, refl, row);
+            unknown = λ f. (sym (refused-parts f).0 ∙ refused-only e, refl, row);
           }
-      go (Accepted rounds) e = accepted_well e
+      go (Ok rounds) e = accepted_well e
 
 -- A sheet of a board whose turn passes all checks.
 module _ (rule : Restart) (isRestart : IsRestart rule) (board : List ℕ) (turn : Turn) (sheets : List Sheet)

@@ -1,12 +1,12 @@
 -- A tick as a whole, from its answer: refused, it changes nothing; with none due it writes nothing and keeps the number; a served sheet has what its
 -- own instant in rounds gives, demand 2 through it, and no byte outside its parts is changed.
-use Rattle.std.specs.Prelude.{◌≡◌, Bool, true, false, ◌&&◌, List, Result, Ok, eqb, ltb, length}
+use Rattle.std.specs.Prelude.{Ok, Err, ◌≡◌, Bool, true, false, ◌&&◌, List, Result, eqb, ltb, length}
+use Rattle.sheet.specs.Outcomes.{refused_at, Outcome, refusal, result}
 use Rattle.std.proofs.Math.Path.{refl, sym, ap}
 use Rattle.std.proofs.Common.{◌∙◌}
 use Prim.Native.Nat.{ℕ, ◌+◌, ◌≤◌, ◌<◌}
 use Rattle.std.proofs.Math.Bool.{not}
 use borrow.Author.Tests.{ltb-true, ltb-false, lt-ltb}
-use Rattle.sheet.specs.Outcomes.{Outcome, refusal, result, refused_at}
 use Rattle.sheet.specs.Sheets.{Sheet, sheet_forms}
 use Rattle.sheet.specs.Laws.Lists.{never}
 use Rattle.sheet.proofs.Laws.Memory.{memory_view}
@@ -15,8 +15,7 @@ use Rattle.sheet.specs.declared.Refusal.{Refusal}
 use Rattle.sheet.specs.declared.Refusal.TheVariants.{StaysUnknown}
 use Rattle.kernel.specs.Calls.{InstantCall, rounds_call}
 use Rattle.kernel.proofs.Laws.Answers.{AcceptedAfter, UnknownAt, demand2_answered}
-use Rattle.kernel.specs.declared.InRounds.{InRounds}
-use Rattle.kernel.specs.declared.InRounds.TheVariants.{Refused as RefusedInRounds, Accepted as AcceptedInRounds}
+use Rattle.kernel.specs.Answers.{InRounds}
 use Rattle.board.specs.Boards.{bytes_of}
 use Rattle.board.specs.Parts.{joined, begin, size, memory_part, input_part, output_part, outputs_in}
 use Rattle.board.specs.Marks.{marked}
@@ -148,7 +147,7 @@ module _ (rule : Restart) (board : List ℕ) (turn : Turn) (standing : Standing)
           )
 
       -- an instant that is refused leaves memory and output row as they were
-      pub refused-unwritten : {why : Refusal} {wire : ℕ} → (instant_of rule board turn sheets k).answer ≡ RefusedInRounds why wire
+      pub refused-unwritten : {why : Refusal} {wire : ℕ} → (instant_of rule board turn sheets k).answer ≡ refused_at why wire
           → (why ≡ StaysUnknown) × (now.memory ≡ turn.memory) × (now.output ≡ turn.output)
       unfolding serve
       refused-unwritten e =
@@ -229,17 +228,18 @@ module _ (rule : Restart) (board : List ℕ) (turn : Turn) (standing : Standing)
     same-answer answer e f = cc
 
     -- the answer of a served sheet is of its instant
-    served-answer : (k : ℕ) (x : InRounds) {j rounds : ℕ} → served_answer k x ≡ Served j rounds → (k ≡ j) × (x ≡ AcceptedInRounds rounds)
-    served-answer k (RefusedInRounds why wire) e = never (cc)
-    served-answer k (AcceptedInRounds rounds) e = (cc, cc)
+    served-answer : (k : ℕ) (x : InRounds) {j rounds : ℕ} → served_answer k x ≡ Served j rounds → (k ≡ j) × (x ≡ Ok rounds)
+    served-answer k (Err r) e = never (cc)
+    served-answer k (Ok rounds) e = (cc, cc)
 
     unknown-answer : (k : ℕ) (x : InRounds) {j wire : ℕ} → served_answer k x ≡ LeftUnknown j wire
-        → (k ≡ j) × ((why : Refusal) × (x ≡ RefusedInRounds why wire))
-    unknown-answer k (RefusedInRounds why wire) e = (cc, (why, cc))
-    unknown-answer k (AcceptedInRounds rounds) e = never (cc)
+        → (k ≡ j) × ((why : Refusal) × (x ≡ refused_at why wire))
+    unknown-answer k (Err r) {wire = wire} e =
+        let place_is : r.place ≡ wire = cc in (cc, (r.why, rw (← place_is)))
+    unknown-answer k (Ok rounds) e = never (cc)
 
     served-after : (sheets : List Sheet) (k : ℕ) {rounds : ℕ} → Serves board turn standing sheets k
-        → (instant_of rule board turn sheets k).answer ≡ AcceptedInRounds rounds → ServedAfter k rounds
+        → (instant_of rule board turn sheets k).answer ≡ Ok rounds → ServedAfter k rounds
     unfolding served_call
     served-after sheets k {rounds} s e =
         let tick = serves_as sheets k s in
@@ -252,7 +252,7 @@ module _ (rule : Restart) (board : List ℕ) (turn : Turn) (standing : Standing)
         }
 
     unknown_in : (sheets : List Sheet) (k : ℕ) {why : Refusal} {wire : ℕ} → Serves board turn standing sheets k
-        → (instant_of rule board turn sheets k).answer ≡ RefusedInRounds why wire → UnknownIn k wire
+        → (instant_of rule board turn sheets k).answer ≡ refused_at why wire → UnknownIn k wire
     unfolding served_call
     unknown_in sheets k {why} {wire} s e =
         let tick = serves_as sheets k s in
@@ -315,5 +315,5 @@ module _ (rule : Restart) (board : List ℕ) (turn : Turn) (standing : Standing)
             }
           where
             never-idle : (x : InRounds) → served_answer k x ≡ NoneDue → TickIdle
-            never-idle (RefusedInRounds why wire) e = never (cc)
-            never-idle (AcceptedInRounds rounds) e = never (cc)
+            never-idle (Err r) e = never (cc)
+            never-idle (Ok rounds) e = never (cc)

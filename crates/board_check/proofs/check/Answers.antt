@@ -41,11 +41,11 @@ returns-in-Refused c =
     let a = c.args in
     let p = walk_through c.in_ok-walked.ensures in
     rw c.at.ensures (finds_unfit a.board.now a.memory.now a.input.now a.output.now c.requires a.wanted p
-    (sym (c.check_buffers.ensures _ (all_formed p)) ∙ c.in-Refused.is))
+    (sym (c.check_buffers.ensures _ (all_formed p)) ∙ c.in-Err.is))
 
-pub returns-in-Fine : goal.returns-in-Fine
-returns-in-Fine c =
+pub returns-in-Ok : goal.returns-in-Ok
+returns-in-Ok c =
     let a = c.args in
     let p = walk_through c.in_ok-walked.ensures in
     finds-all a.board.now a.memory.now a.input.now a.output.now c.requires a.wanted p
-    (sym (c.check_buffers.ensures _ (all_formed p)) ∙ c.in-Fine.is)
+    (sym (c.check_buffers.ensures _ (all_formed p)) ∙ c.in-Ok.is)

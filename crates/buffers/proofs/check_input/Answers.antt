@@ -10,14 +10,12 @@ use Rattle.sheet.specs.Rows.{wrong_at, inputs_of}
 use Rattle.buffers.proofs.Tests.{length-off, place_wrong, none_wrong}
 use Rattle.buffers.proofs.check_input.Goals as goal
 
-pub overflow_mul-types : goal.overflow_mul-types
-overflow_mul-types c = omega (arith, c.requires)
-
 pub returns-then-input-types : goal.returns-then-input-types
 unfolding inputs_of
 returns-then-input-types c =
     let types = c.args.types.now in
-    length-off _ _ _ _ _ _ _ (λ e. c.if-input-types.true (e ∙ ap (λ n. 4 * n) (length-map types type_of_byte)))
+    rw c.at.ensures
+    (length-off _ _ _ _ _ _ _ (λ e. c.if-input-types.true (e ∙ ap (λ n. 4 * n) (length-map types type_of_byte))))
 
 pub returns-then-entry-types : goal.returns-then-entry-types
 unfolding inputs_of
@@ -28,7 +26,8 @@ returns-then-entry-types c =
     = c.if-input-types.false ∙ ap (λ n. 4 * n) (sym (length-map a.types.now type_of_byte)) in
     let found : c.first_wrong-entry.result ≡ lowest (wrong_at (map type_of_byte a.types.now) a.input.now) (length (map type_of_byte a.types.now))
     = c.first_wrong-entry.ensures ∙ ap (lowest (wrong_at (map type_of_byte a.types.now) a.input.now)) (sym (length-map a.types.now type_of_byte)) in
-    place_wrong _ _ _ _ _ _ _ _ fits found (omega (arith, c.if-entry-types.true, length-map a.types.now type_of_byte))
+    rw c.at-then-entry-types.ensures
+    (place_wrong _ _ _ _ _ _ _ _ fits found (omega (arith, c.if-entry-types.true, length-map a.types.now type_of_byte)))
 
 pub returns : goal.returns
 unfolding inputs_of

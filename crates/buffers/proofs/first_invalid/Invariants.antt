@@ -10,7 +10,4 @@ use Rattle.buffers.proofs.first_invalid.Given as goal
 
 abbrev pub invariant-loop-k : goal.invariant-loop-k
 invariant-loop-k l =
-    (l.k ≤ l.cells) × ((fs : List CellForm) → Formed fs l.forms l.cells → (j : ℕ) → j < l.k → invalid_at fs l.memory j ≡ false)
-
-abbrev pub decreases-loop-k : goal.decreases-loop-k
-decreases-loop-k l = l.cells - l.k
+    (fs : List CellForm) → Formed fs l.forms l.cells → (j : ℕ) → j < l.k → invalid_at fs l.memory j ≡ false

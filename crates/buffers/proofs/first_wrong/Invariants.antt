@@ -9,7 +9,4 @@ use Rattle.sheet.specs.Rows.{wrong_at}
 use Rattle.buffers.proofs.first_wrong.Given as goal
 
 abbrev pub invariant-loop-i : goal.invariant-loop-i
-invariant-loop-i l = (l.i ≤ length l.types) × ((j : ℕ) → j < l.i → wrong_at (map type_of_byte l.types) l.input j ≡ false)
-
-abbrev pub decreases-loop-i : goal.decreases-loop-i
-decreases-loop-i l = length l.types - l.i
+invariant-loop-i l = (j : ℕ) → j < l.i → wrong_at (map type_of_byte l.types) l.input j ≡ false

@@ -1,15 +1,11 @@
 -- `given_of` meets its contract: the answers follow those of the check and of the buffers' tests, and what passed is granted.
-use Prim.Native.Nat.{ℕ, ◌<◌}
-use mathlib.Core.Path.{◌≡◌, sym, ap, ◌∙◌}
+use mathlib.Core.Path.{sym, ◌∙◌}
 use native.Mathlib.Omega.{arith}
-use lib.ListN.{length, length-take, get_or}
-use Rattle.sheet.specs.Sheets.{sheet_forms}
-use Rattle.given.specs.Grants.{parts_of}
+use lib.ListN.{length-take}
+use Rattle.std.proofs.lemmas.Result.{err_from_is_err_and}
 use Rattle.sheet.proofs.Laws.Checked.{check_passed}
-use Rattle.buffers.specs.Laws.{noted-hold, held_forms}
-use Rattle.given.proofs.Passing.{own-tests, sheet-refused, buffers_refused, buffers_passed}
-use Rattle.given.proofs.Standing.{input-length}
-use Rattle.given.proofs.Granting.{grants-refusal, grants-kept, grants-parts}
+use Rattle.given.proofs.Passing.{sheet-refused}
+use Rattle.given.proofs.Granting.{grants-refused, grants-passed, tested-refused, tested-kept, tested-granted}
 use Rattle.given.proofs.given_of.Goals as goal
 
 pub overflow_add-types : goal.overflow_add-types
@@ -21,11 +17,6 @@ pub slice_bounds-types-end : goal.slice_bounds-types-end
 slice_bounds-types-end c = (check_passed c.args.sheet.now c.in-Ok.counts (sym c.in-Ok.ensures.value)).within
 
 -- the map has the forms of the cells in a table of 64
-pub slice_bounds-check_buffers-end : goal.slice_bounds-check_buffers-end
-slice_bounds-check_buffers-end c =
-    let p = check_passed c.args.sheet.now c.in-Ok.counts (sym c.in-Ok.ensures.value) in
-    sym (c.in-Ok.ensures.mapped p.sheet p.end _ p.view).cell_room
-
 pub check_buffers-requires : goal.check_buffers-requires
 check_buffers-requires c =
     let p = check_passed c.args.sheet.now c.in-Ok.counts (sym c.in-Ok.ensures.value) in
@@ -35,78 +26,39 @@ check_buffers-requires c =
       types_len_bound = (simp length-take (omega (arith, p.few-inputs)), omega (arith, p.few-outputs));
     }
 
--- the wires that were counted are few
-pub overflow_add-wire_types : goal.overflow_add-wire_types
-overflow_add-wire_types c =
-    let p = check_passed c.args.sheet.now c.in-Ok.counts (sym c.in-Ok.ensures.value) in
-    omega (arith, p.few-inputs, p.few-wires)
-
-pub overflow_add-wire_types-in-Fine : goal.overflow_add-wire_types-in-Fine
-overflow_add-wire_types-in-Fine c =
-    let p = check_passed c.args.sheet.now c.in-Ok.counts (sym c.in-Ok.ensures.value) in
-    omega (arith, p.few-inputs, p.few-wires)
-
-pub overflow_add-wire_types-in-Fine-2 : goal.overflow_add-wire_types-in-Fine-2
-overflow_add-wire_types-in-Fine-2 c =
-    let p = check_passed c.args.sheet.now c.in-Ok.counts (sym c.in-Ok.ensures.value) in
-    omega (arith, p.few-inputs, p.few-wires)
-
--- where the wires' types stand, and that the cells of those that are kept are there
-pub slice_bounds-wire_types-end : goal.slice_bounds-wire_types-end
-slice_bounds-wire_types-end c =
-    let a = c.args in
-    let p = check_passed c.args.sheet.now c.in-Ok.counts (sym c.in-Ok.ensures.value) in
-    let noted = rw (← (ap sheet_forms p.view.is)) at (c.in-Ok.ensures.mapped p.sheet p.end _ p.view).cell in
-    let tested = c.check_buffers.ensures (sheet_forms p.sheet) (held_forms p.cells_are (noted-hold noted))
-    ∙ own-tests p a.memory.now a.input.now a.output.now in
-    let (given, passes, is) = buffers_passed _ _ _ _ p.outcome (sym c.in-Fine.is ∙ tested) in
-    (rw (is, p.inputs_are, p.wires-are)
-    at (grants-kept _ _ _ _ _ _ _ given passes (λ sheet n k v. (c.in-Ok.ensures.mapped sheet n k v).sites)
-    (λ i. omega (arith, c.type_inv.memory i)))).0
+pub parts_of-parts-requires : goal.parts_of-parts-requires
+parts_of-parts-requires c =
+    let p = check_passed c.args.sheet.now _ _ _ _ (sym c.check_map.ensures.value ∙ c.in-Passed.is) in
+    let kept = tested-kept p c.check_map.ensures.mapped _ _ _ c.check_buffers.ensures (λ i. omega (arith, c.type_inv.memory i)) c.in_ok-check_buffers-in-Passed.was in
+    (p.few-inputs, p.few-wires, p.few-outputs, kept.0)
 
 pub put_fixed-requires : goal.put_fixed-requires
 put_fixed-requires c =
-    let a = c.args in
-    let p = check_passed c.args.sheet.now c.in-Ok.counts (sym c.in-Ok.ensures.value) in
-    let noted = rw (← (ap sheet_forms p.view.is)) at (c.in-Ok.ensures.mapped p.sheet p.end _ p.view).cell in
-    let tested = c.check_buffers.ensures (sheet_forms p.sheet) (held_forms p.cells_are (noted-hold noted))
-    ∙ own-tests p a.memory.now a.input.now a.output.now in
-    let (given, passes, is) = buffers_passed _ _ _ _ p.outcome (sym c.in-Fine.is ∙ tested) in
-    let (within, kept, count) = rw (is, p.inputs_are, p.wires-are)
-    at (grants-kept _ _ _ _ _ _ _ given passes (λ sheet n k v. (c.in-Ok.ensures.mapped sheet n k v).sites)
-    (λ i. omega (arith, c.type_inv.memory i))) in
-    (kept, count, input-length _ _ _ _ _ passes, c.requires)
-
-pub parts-requires : goal.parts-requires
-parts-requires c =
-    let p = check_passed c.args.sheet.now c.in-Ok.counts (sym c.in-Ok.ensures.value) in
-    (p.few-inputs, p.few-wires, p.few-outputs)
+    let p = check_passed c.args.sheet.now _ _ _ _ (sym c.check_map.ensures.value ∙ c.in-Passed.is) in
+    let (within, kept, few, row) =
+    tested-kept p c.check_map.ensures.mapped _ _ _ c.check_buffers.ensures (λ i. omega (arith, c.type_inv.memory i)) c.in_ok-check_buffers-in-Passed.was in
+    rw c.parts_of-parts.ensures.types (kept, few, row, c.requires.3)
 
 pub returns-in-Err : goal.returns-in-Err
 returns-in-Err c =
     grants-refusal _ _ _ _ _ _ _ _ (sheet-refused _ _ _ _ (sym c.in-Err.ensures.value))
 
 pub returns-in-Refused : goal.returns-in-Refused
-returns-in-Refused c =
-    let a = c.args in
-    let p = check_passed c.args.sheet.now c.in-Ok.counts (sym c.in-Ok.ensures.value) in
-    let noted = rw (← (ap sheet_forms p.view.is)) at (c.in-Ok.ensures.mapped p.sheet p.end _ p.view).cell in
-    let tested = c.check_buffers.ensures (sheet_forms p.sheet) (held_forms p.cells_are (noted-hold noted))
-    ∙ own-tests p a.memory.now a.input.now a.output.now in
-    grants-refusal _ _ _ _ _ _ _ _ (buffers_refused _ _ _ _ p.outcome (sym c.in-Refused.is ∙ tested))
+returns-in-Refused c = grants-refused _ _ _ _ _ _ _ _ (sheet-refused _ _ _ _ (sym c.check_map.ensures.value ∙ c.in-Refused.is))
 
-pub returns-in-Fine : goal.returns-in-Fine
-returns-in-Fine c =
-    let bytes : (i : ℕ) → get_or c.args.memory.now i 0 < 256 = λ i. omega (arith, c.type_inv.memory i) in
-    let a = c.args in
-    let p = check_passed c.args.sheet.now c.in-Ok.counts (sym c.in-Ok.ensures.value) in
-    let noted = rw (← (ap sheet_forms p.view.is)) at (c.in-Ok.ensures.mapped p.sheet p.end _ p.view).cell in
-    let tested = c.check_buffers.ensures (sheet_forms p.sheet) (held_forms p.cells_are (noted-hold noted))
-    ∙ own-tests p a.memory.now a.input.now a.output.now in
-    let (given, passes, is) = buffers_passed _ _ _ _ p.outcome (sym c.in-Fine.is ∙ tested) in
+pub returns-in_err-check_buffers-in-Passed : goal.returns-in_err-check_buffers-in-Passed
+returns-in_err-check_buffers-in-Passed c =
+    let p = check_passed c.args.sheet.now _ _ _ _ (sym c.check_map.ensures.value ∙ c.in-Passed.is) in
+    let q = err_from_is_err_and c.from_residual.result c.from_residual.ensures.1 in
+    rw (q.1, q.2)
+    (grants-refused _ _ _ _ _ _ _ _ (tested-refused p c.check_map.ensures.mapped _ _ _ c.check_buffers.ensures c.in_err-check_buffers-in-Passed.was))
+
+pub returns-in_ok-check_buffers-in-Passed : goal.returns-in_ok-check_buffers-in-Passed
+returns-in_ok-check_buffers-in-Passed c =
+    let p = check_passed c.args.sheet.now _ _ _ _ (sym c.check_map.ensures.value ∙ c.in-Passed.is) in
     let put = c.put_fixed.ensures in
-    let counts : parts_of (length given.sheet.input_types) (length given.sheet.wire_types) (length given.sheet.outputs)
-    ≡ c.parts.result = rw (is, p.inputs_are, p.wires-are, p.outputs-are) (sym c.parts.ensures) in
-    rw (← counts)
-    (grants-parts _ _ _ _ _ _ _ given passes (λ sheet n k v. (c.in-Ok.ensures.mapped sheet n k v).sites)
-    bytes _ put.0 (rw (is, p.inputs_are, p.wires-are) put.1) put.2)
+    let stand = c.parts_of-parts.ensures in
+    grants-passed _ _ _ _ _ _ _ _
+    (rw (stand.types, stand.outputs)
+    (tested-granted p c.check_map.ensures.mapped _ _ _ c.check_buffers.ensures (λ i. omega (arith, c.type_inv.memory i))
+    c.in_ok-check_buffers-in-Passed.was put.0 (rw stand.types at put.1) put.2))

@@ -1,6 +1,6 @@
 -- An instant of a joined sheet, from the bytes of memory and rows: it reads what both read, joined, it is accepted exactly if both are, and then it
 -- leaves what they leave. In rounds, and by demand 3 along a schedule.
-use Rattle.std.specs.Prelude.{◌≡◌, ℕ, suc, ◌+◌, ◌*◌, ◌<◌, max, List, [], ◌∷◌, ◌++◌, ◌↔◌, length, get_or}
+use Rattle.std.specs.Prelude.{Ok, ◌≡◌, ℕ, suc, ◌+◌, ◌*◌, ◌<◌, max, List, [], ◌∷◌, ◌++◌, ◌↔◌, length, get_or}
 use Rattle.std.proofs.Common.{sym, ap, ap₂, ◌∙◌, arith, length-append}
 use Rattle.std.proofs.lemmas.List.{length-map}
 use Rattle.sheet.specs.Outcomes.{result}
@@ -20,10 +20,7 @@ use Rattle.kernel.specs.Calls.{Given, given_of, InstantCall, rounds_call, schedu
 use Rattle.kernel.proofs.Laws.Accepted.{full-accepted, accepted-full, schedule_accepted, accepted-along}
 use Rattle.kernel.proofs.Laws.Demands.{given_finished, given_rounds}
 use Rattle.kernel.proofs.Laws.Given.{given_by, by-given}
-use Rattle.kernel.specs.declared.InRounds.{InRounds}
-use Rattle.kernel.specs.declared.InRounds.TheVariants.{Accepted}
-use Rattle.kernel.specs.declared.Scheduled.{Scheduled}
-use Rattle.kernel.specs.declared.Scheduled.TheVariants.{Accepted as AcceptedScheduled}
+use Rattle.kernel.specs.Answers.{InRounds, Scheduled}
 use Rattle.join.specs.Joined.{shifted_numbers, joined_list, joined}
 use Rattle.join.specs.Runs.{both_leave, RoundsJoined, ScheduledJoined}
 use Rattle.join.proofs.Laws.Buffers.{memory_bytes-joined, row-bytes-joined}
@@ -84,13 +81,13 @@ module _ (s : List ℕ) (sheet : Sheet) (read : sheet_of s ≡ result sheet) (me
 
   accepts : (r : Reads sheet memory input) → LeavesNone r
       → rounds_call s memory input output ≡ record {
-        answer = Accepted (given_rounds (given_to r));
+        answer = Ok (given_rounds (given_to r));
         memory = memory_bytes (next_memory sheet r.inputs r.cells (given_finished (given_to r)));
         output = row_bytes (output_row sheet (given_finished (given_to r)));
       }
   accepts r full = full-accepted s memory input output (given_to r) (given r) full
 
-  accepted : {count : ℕ} → (rounds_call s memory input output).answer ≡ Accepted count
+  accepted : {count : ℕ} → (rounds_call s memory input output).answer ≡ Ok count
       → (r : Reads sheet memory input) × LeavesNone r × (count ≡ given_rounds (given_to r))
   accepted e =
       let a = accepted-full s memory input output e in
@@ -98,11 +95,11 @@ module _ (s : List ℕ) (sheet : Sheet) (read : sheet_of s ≡ result sheet) (me
       (r, rw same at a.full, rw same at a.rounds)
 
   accepts_list : (list : List ℕ) → Reads sheet memory input → IsSchedule sheet list
-      → (scheduled_call s memory input output list).answer ≡ AcceptedScheduled
+      → (scheduled_call s memory input output list).answer ≡ Ok tt
   accepts_list list r schedule =
       ap (λ (x : InstantCall Scheduled). x.answer) (schedule_accepted s memory input output (given_to r) (given r) list schedule)
 
-  accepted_list : (list : List ℕ) → (scheduled_call s memory input output list).answer ≡ AcceptedScheduled
+  accepted_list : (list : List ℕ) → (scheduled_call s memory input output list).answer ≡ Ok tt
       → Reads sheet memory input × IsSchedule sheet list
   accepted_list list e =
       let a = accepted-along s memory input output list e in
@@ -176,7 +173,7 @@ module _ (s t bytes : List ℕ) (first second : Sheet) (read₁ : sheet_of s ≡
     -- the whole instant, where no wire is left unknown
     accepts-both : LeavesNone one → LeavesNone other
         → rounds_call bytes (memory₁ ++ memory₂) (input₁ ++ input₂) (output₁ ++ output₂)
-        ≡ both_leave (Accepted (max (given_rounds (given_to one)) (given_rounds (given_to other))))
+        ≡ both_leave (Ok (max (given_rounds (given_to one)) (given_rounds (given_to other))))
         (rounds_call s memory₁ input₁ output₁) (rounds_call t memory₂ input₂ output₂)
     accepts-both full₁ full₂ =
         accepts bytes whole read _ _ _ output_sized all (all-full.1 (full₁, full₂))
@@ -192,20 +189,20 @@ module _ (s t bytes : List ℕ) (first second : Sheet) (read₁ : sheet_of s ≡
       (rounds_call s memory₁ input₁ output₁) (rounds_call t memory₂ input₂ output₂)
   in_rounds_lem = record { both = λ e f. together e f; parts = λ e. apart e }
     where
-      together : {n m : ℕ} → (rounds_call s memory₁ input₁ output₁).answer ≡ Accepted n
-          → (rounds_call t memory₂ input₂ output₂).answer ≡ Accepted m
+      together : {n m : ℕ} → (rounds_call s memory₁ input₁ output₁).answer ≡ Ok n
+          → (rounds_call t memory₂ input₂ output₂).answer ≡ Ok m
           → rounds_call bytes (memory₁ ++ memory₂) (input₁ ++ input₂) (output₁ ++ output₂)
-          ≡ both_leave (Accepted (max n m)) (rounds_call s memory₁ input₁ output₁) (rounds_call t memory₂ input₂ output₂)
+          ≡ both_leave (Ok (max n m)) (rounds_call s memory₁ input₁ output₁) (rounds_call t memory₂ input₂ output₂)
       together e f =
           let (one, full₁, count₁) = accepted s first read₁ memory₁ input₁ output₁ output-sized₁ e in
           let (other, full₂, count₂) = accepted t second read₂ memory₂ input₂ output₂ output-sized₂ f in
           accepts-both one other full₁ full₂
-          ∙ ap₂ (λ x y. both_leave (Accepted (max x y)) (rounds_call s memory₁ input₁ output₁) (rounds_call t memory₂ input₂ output₂))
+          ∙ ap₂ (λ x y. both_leave (Ok (max x y)) (rounds_call s memory₁ input₁ output₁) (rounds_call t memory₂ input₂ output₂))
           (sym count₁) (sym count₂)
 
-      apart : {count : ℕ} → (rounds_call bytes (memory₁ ++ memory₂) (input₁ ++ input₂) (output₁ ++ output₂)).answer ≡ Accepted count
-          → (n : ℕ) × (m : ℕ) × ((rounds_call s memory₁ input₁ output₁).answer ≡ Accepted n)
-          × ((rounds_call t memory₂ input₂ output₂).answer ≡ Accepted m)
+      apart : {count : ℕ} → (rounds_call bytes (memory₁ ++ memory₂) (input₁ ++ input₂) (output₁ ++ output₂)).answer ≡ Ok count
+          → (n : ℕ) × (m : ℕ) × ((rounds_call s memory₁ input₁ output₁).answer ≡ Ok n)
+          × ((rounds_call t memory₂ input₂ output₂).answer ≡ Ok m)
       apart e =
           let (found, full, count) = accepted bytes whole read _ _ _ output_sized e in
           let (one, other) = parts-read found in
@@ -223,7 +220,7 @@ module _ (s t bytes : List ℕ) (first second : Sheet) (read₁ : sheet_of s ≡
 
     along-both : (one : Reads first memory₁ input₁) (other : Reads second memory₂ input₂) → IsSchedule first list₁ → IsSchedule second list₂
         → scheduled_call bytes (memory₁ ++ memory₂) (input₁ ++ input₂) (output₁ ++ output₂) list
-        ≡ both_leave AcceptedScheduled (scheduled_call s memory₁ input₁ output₁ list₁) (scheduled_call t memory₂ input₂ output₂ list₂)
+        ≡ both_leave (Ok tt) (scheduled_call s memory₁ input₁ output₁ list₁) (scheduled_call t memory₂ input₂ output₂ list₂)
     along-both one other schedule₁ schedule₂ =
         let schedule = schedule_joined first second (sound_read s read₁).typed list₁ list₂ counted₁ counted₂ schedule₁ schedule₂ in
         schedule_accepted bytes _ _ _ (given_to (all one other)) (given bytes whole read _ _ _ output_sized (all one other)) list schedule
@@ -240,18 +237,18 @@ module _ (s t bytes : List ℕ) (first second : Sheet) (read₁ : sheet_of s ≡
         (scheduled_call s memory₁ input₁ output₁ list₁) (scheduled_call t memory₂ input₂ output₂ list₂)
     along_schedule_lem = record { both = λ e f. together e f; parts = λ e. apart e }
       where
-        together : (scheduled_call s memory₁ input₁ output₁ list₁).answer ≡ AcceptedScheduled
-            → (scheduled_call t memory₂ input₂ output₂ list₂).answer ≡ AcceptedScheduled
+        together : (scheduled_call s memory₁ input₁ output₁ list₁).answer ≡ Ok tt
+            → (scheduled_call t memory₂ input₂ output₂ list₂).answer ≡ Ok tt
             → scheduled_call bytes (memory₁ ++ memory₂) (input₁ ++ input₂) (output₁ ++ output₂) list
-            ≡ both_leave AcceptedScheduled (scheduled_call s memory₁ input₁ output₁ list₁) (scheduled_call t memory₂ input₂ output₂ list₂)
+            ≡ both_leave (Ok tt) (scheduled_call s memory₁ input₁ output₁ list₁) (scheduled_call t memory₂ input₂ output₂ list₂)
         together e f =
             let (one, schedule₁) = accepted_list s first read₁ memory₁ input₁ output₁ output-sized₁ list₁ e in
             let (other, schedule₂) = accepted_list t second read₂ memory₂ input₂ output₂ output-sized₂ list₂ f in
             along-both one other schedule₁ schedule₂
 
-        apart : (scheduled_call bytes (memory₁ ++ memory₂) (input₁ ++ input₂) (output₁ ++ output₂) list).answer ≡ AcceptedScheduled
-            → ((scheduled_call s memory₁ input₁ output₁ list₁).answer ≡ AcceptedScheduled)
-            × ((scheduled_call t memory₂ input₂ output₂ list₂).answer ≡ AcceptedScheduled)
+        apart : (scheduled_call bytes (memory₁ ++ memory₂) (input₁ ++ input₂) (output₁ ++ output₂) list).answer ≡ Ok tt
+            → ((scheduled_call s memory₁ input₁ output₁ list₁).answer ≡ Ok tt)
+            × ((scheduled_call t memory₂ input₂ output₂ list₂).answer ≡ Ok tt)
         apart e =
             let (found, schedule) = accepted_list bytes whole read _ _ _ output_sized list e in
             let (one, other) = parts-read found in

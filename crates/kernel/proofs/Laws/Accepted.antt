@@ -1,7 +1,7 @@
 -- An accepted instant, from the answer of the call, wire by wire: the types of what it is worked out under, the value of each wire and the cells
 -- that the instant leaves of it; what an accepted instant comes to as a whole, and one that is accepted along a schedule as one in rounds.
+use Rattle.std.specs.Prelude.{Ok, ◌≡◌, Bool, drop}
 use Prim.Native.Nat.{ℕ, zero, suc, ◌+◌, ◌<◌}
-use Rattle.std.specs.Prelude.{◌≡◌, Bool, drop}
 use Rattle.std.proofs.Math.Path.{refl, sym, ap}
 use Rattle.std.proofs.Common.{◌∙◌, arith}
 use Rattle.std.proofs.Math.Bool.{false}
@@ -34,9 +34,7 @@ use Rattle.kernel.proofs.Laws.Demands.{given_rounds, given_finished, demand2, sc
 use Rattle.kernel.proofs.Laws.Memory.{lasts_valid, finished-has, next_memory_valid, next_memory_back, given-valid}
 use Rattle.kernel.proofs.Laws.Answers.{AcceptedAfter, demand2_answered}
 use Rattle.kernel.specs.declared.Value.{Value}
-use Rattle.kernel.specs.declared.InRounds.{InRounds}
-use Rattle.kernel.specs.declared.InRounds.TheVariants.{Accepted}
-use Rattle.kernel.specs.declared.Scheduled.TheVariants.{Accepted as AcceptedScheduled}
+use Rattle.kernel.specs.Answers.{InRounds}
 
 -- the expression of a wire has a type, and its cells are valid
 wire-typed : (input_types wire_types : List ValueType) (memory : List Cell) {ts : List ValueType} {es : List Expression} (k w : ℕ)
@@ -76,7 +74,7 @@ module _ (input_types wire_types : List ValueType) (now : Environment) (on_input
       ∙ ap (take (cell_count (expression_at es w))) (drop-append-add front rest (cells_before es w))
       ∙ stored-of-wire (k + cell_count e) w hs m₂ (omega arith) ∙ sym (rw (behind-first e es k w))
 
-module _ (s memory input output : List ℕ) {r : ℕ} (accepted : (rounds_call s memory input output).answer ≡ Accepted r) where
+module _ (s memory input output : List ℕ) {r : ℕ} (accepted : (rounds_call s memory input output).answer ≡ Ok r) where
   -- what the answer says by demand 2
   abbrev pub solved : AcceptedAfter s memory input output r
   solved = (demand2_answered s memory input output).accepted r accepted
@@ -163,7 +161,7 @@ module _ (s memory input output : List ℕ) {r : ℕ} (accepted : (rounds_call s
 module _ (s memory input output : List ℕ) (given : Given) (passes : given_of s memory input output ≡ result given) where
   pub full-accepted : Full (wire_count given.sheet) (given_finished given)
       → rounds_call s memory input output ≡ record {
-        answer = Accepted (given_rounds given);
+        answer = Ok (given_rounds given);
         memory = memory_bytes (next_memory given.sheet given.inputs given.memory (given_finished given));
         output = row_bytes (output_row given.sheet (given_finished given));
       }
@@ -172,7 +170,7 @@ module _ (s memory input output : List ℕ) (given : Given) (passes : given_of s
 
   pub schedule_accepted : (list : List ℕ) → IsSchedule given.sheet list
       → scheduled_call s memory input output list ≡ record {
-        answer = AcceptedScheduled;
+        answer = Ok tt;
         memory = memory_bytes (next_memory given.sheet given.inputs given.memory (given_finished given));
         output = row_bytes (output_row given.sheet (given_finished given));
       }
@@ -187,13 +185,13 @@ module _ (s memory input output : List ℕ) where
     pub full : Full (wire_count given.sheet) (given_finished given)
     pub rounds : r ≡ given_rounds given
 
-  pub accepted-full : {r : ℕ} → (rounds_call s memory input output).answer ≡ Accepted r → AcceptedFull r
+  pub accepted-full : {r : ℕ} → (rounds_call s memory input output).answer ≡ Ok r → AcceptedFull r
   accepted-full {r} accepted =
       let given = (solved s memory input output accepted).given in
       let passes = (solved s memory input output accepted).passes in
       let full : Full (wire_count given.sheet) (given_finished given) =
       rw (finally s memory input output accepted) (solved s memory input output accepted).full in
-      let same : Accepted r ≡ Accepted (given_rounds given) =
+      let same : Ok r ≡ Ok (given_rounds given) =
       sym accepted ∙ ap (λ (x : InstantCall InRounds). x.answer) (full-accepted s memory input output given passes full) in
       record { given = given; passes = passes; full = full; rounds = cc }
 
@@ -204,29 +202,29 @@ module _ (s memory input output list : List ℕ) where
     pub passes : given_of s memory input output ≡ result given
     pub schedule : IsSchedule given.sheet list
 
-  pub accepted-along : (scheduled_call s memory input output list).answer ≡ AcceptedScheduled → AcceptedAlong
+  pub accepted-along : (scheduled_call s memory input output list).answer ≡ Ok tt → AcceptedAlong
   unfolding scheduled_call scheduled
   accepted-along = by (given_of s memory input output) refl
     where
       along : (given : Given) → given_of s memory input output ≡ result given → (o : Outcome (List ℕ)) → schedule_of given.sheet list ≡ o
           → scheduled_answer (followed_by o (λ order. accepted_of given 0 (pass given.sheet given.inputs given.memory order)))
-          ≡ AcceptedScheduled → AcceptedAlong
+          ≡ Ok tt → AcceptedAlong
       along given passes (refusal why place) e a = never (cc)
       along given passes (result order) e a =
           let listed = (schedule_passed given.sheet list order e).1 in
           record { given = given; passes = passes; schedule = passed_schedule given.sheet list listed }
 
       by : (o : Outcome Given) → given_of s memory input output ≡ o
-          → scheduled_answer (followed_by o (λ given. scheduled given list)) ≡ AcceptedScheduled → AcceptedAlong
+          → scheduled_answer (followed_by o (λ given. scheduled given list)) ≡ Ok tt → AcceptedAlong
       by (refusal why place) e a = never (cc)
       by (result given) e a = along given e (schedule_of given.sheet list) refl a
 
   pub record AsInRounds : Type 0 where
     pub rounds : ℕ
-    pub accepted : (rounds_call s memory input output).answer ≡ Accepted rounds
+    pub accepted : (rounds_call s memory input output).answer ≡ Ok rounds
     pub same : (scheduled_call s memory input output list).memory ≡ (rounds_call s memory input output).memory
 
-  pub as_in_rounds : (scheduled_call s memory input output list).answer ≡ AcceptedScheduled → AsInRounds
+  pub as_in_rounds : (scheduled_call s memory input output list).answer ≡ Ok tt → AsInRounds
   as_in_rounds a =
       let along = accepted-along a in
       let given = along.given in

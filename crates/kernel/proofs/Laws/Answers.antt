@@ -1,12 +1,12 @@
 -- What the answers of the two instants say, on any bytes: demand 2 as the order has it, from the answer of the call; the numbers that
 -- each call refuses with; and that the scheduled instant never answers 20.
-use Rattle.std.specs.Prelude.{◌≡◌, ◌⊎◌, ◌↔◌, ℕ, suc, ◌≤◌, ◌<◌, List}
+use Rattle.std.specs.Prelude.{Ok, Err, ◌≡◌, ◌⊎◌, ◌↔◌, ℕ, suc, ◌≤◌, ◌<◌, List}
+use Rattle.sheet.specs.Outcomes.{refused_at, Outcome, refusal, result, followed_by, number_of}
 use Rattle.std.proofs.Math.Path.{refl}
 use Rattle.std.proofs.Common.{sym, ap, subst, ◌∙◌, inl, inr, arith}
-use Rattle.sheet.specs.Outcomes.{Outcome, refusal, result, followed_by, number_of}
 use Rattle.sheet.specs.Memory.{memory_bytes}
 use Rattle.sheet.specs.Rows.{row_bytes}
-use Rattle.sheet.specs.Laws.Outcomes.{same-result}
+use Rattle.sheet.specs.Laws.Outcomes.{refused-parts, same-result}
 use Rattle.sheet.specs.Laws.Refusals.{Within, OutcomeWithin, refusal-within, result-within}
 use Rattle.sheet.proofs.Laws.Typing.{checked_well_typed}
 use Rattle.sheet.specs.declared.Refusal.{Refusal}
@@ -29,9 +29,7 @@ use Rattle.kernel.proofs.Laws.Demands.{demand2, least-finished}
 use Rattle.kernel.proofs.Laws.Refusals.{given-within, few-wires, scheduled-within}
 use Rattle.kernel.specs.declared.Value.{Value}
 use Rattle.kernel.specs.declared.Value.TheVariants.{Unknown}
-use Rattle.kernel.specs.declared.InRounds.{InRounds}
-use Rattle.kernel.specs.declared.InRounds.TheVariants.{Refused as RefusedInRounds, Accepted as AcceptedInRounds}
-use Rattle.kernel.specs.declared.Scheduled.TheVariants.{Refused as RefusedScheduled}
+use Rattle.kernel.specs.Answers.{InRounds}
 
 module _ (s memory input output : List ℕ) where
   -- an instant in rounds that is accepted with r rounds: 1 to 16 are passed, the least solution leaves no wire unknown, so that there is
@@ -70,9 +68,9 @@ module _ (s memory input output : List ℕ) where
     pub refused : given_of s memory input output ≡ refusal why p
 
   pub record Demand2Answered : Type 0 where
-    pub accepted : (r : ℕ) → (rounds_call s memory input output).answer ≡ AcceptedInRounds r → AcceptedAfter r
-    pub unknown : (p : ℕ) → (rounds_call s memory input output).answer ≡ RefusedInRounds StaysUnknown p → UnknownAt p
-    pub refused : (why : Refusal) (p : ℕ) → (rounds_call s memory input output).answer ≡ RefusedInRounds why p
+    pub accepted : (r : ℕ) → (rounds_call s memory input output).answer ≡ Ok r → AcceptedAfter r
+    pub unknown : (p : ℕ) → (rounds_call s memory input output).answer ≡ refused_at StaysUnknown p → UnknownAt p
+    pub refused : (why : Refusal) (p : ℕ) → (rounds_call s memory input output).answer ≡ refused_at why p
         → (why ≡ StaysUnknown) ⊎ RefusedBefore why p
 
   -- the three ways in which the instant in rounds comes to its outcome
@@ -109,7 +107,7 @@ module _ (s memory input output : List ℕ) where
   demand2_answered = record { accepted = λ r. accepted r _ refl comes; unknown = λ p. unknown p _ refl comes; refused = λ why p. refused why p _ comes }
     where
       accepted : (r : ℕ) (x : Outcome Accepted) → followed_by (given_of s memory input output) in_rounds ≡ x → Comes x
-          → rounds_answer x ≡ AcceptedInRounds r → AcceptedAfter r
+          → rounds_answer x ≡ Ok r → AcceptedAfter r
       accepted r _ q (before e) a = never (cc)
       accepted r _ q (left given e at) a = never (cc)
       accepted r _ q (solved given e full) a =
@@ -131,15 +129,15 @@ module _ (s memory input output : List ℕ) where
           }
 
       unknown : (p : ℕ) (x : Outcome Accepted) → followed_by (given_of s memory input output) in_rounds ≡ x → Comes x
-          → rounds_answer x ≡ RefusedInRounds StaysUnknown p → UnknownAt p
+          → rounds_answer x ≡ refused_at StaysUnknown p → UnknownAt p
       unknown p _ q (before {why = why} {p = place} e) a =
-          let why-is : why ≡ StaysUnknown = cc in
+          let why-is = (refused-parts a).0 in
           absurd (beyond (rw (e, why-is) at (given-within s memory input output)))
         where
           beyond : OutcomeWithin {A = Given} 16 (refusal StaysUnknown place) → ⊥
           beyond (refusal-within w) = omega (arith, w.number)
       unknown p _ q (left given e at) a =
-          let place_is : place_of_loop given (given_finished given) ≡ p = cc in
+          let place_is = (refused-parts a).1 in
           let there = waiting-at given e at in
           record {
             given = given;
@@ -153,22 +151,21 @@ module _ (s memory input output : List ℕ) where
           }
       unknown p _ q (solved given e full) a = never (cc)
 
-      refused : (why : Refusal) (p : ℕ) (x : Outcome Accepted) → Comes x → rounds_answer x ≡ RefusedInRounds why p
+      refused : (why : Refusal) (p : ℕ) (x : Outcome Accepted) → Comes x → rounds_answer x ≡ refused_at why p
           → (why ≡ StaysUnknown) ⊎ RefusedBefore why p
       refused why p _ (before {why = found} {p = place} e) a =
-          let why-is : found ≡ why = cc in
-          let place_is : place ≡ p = cc in
+          let (why-is, place_is) = refused-parts a in
           inr (record { number = within (rw (e, why-is) at (given-within s memory input output)); refused = rw (e, why-is, place_is) })
         where
           within : OutcomeWithin {A = Given} 16 (refusal why place) → number_of why ≤ 16
           within (refusal-within w) = w.number
-      refused why p _ (left given e at) a = inl (cc)
+      refused why p _ (left given e at) a = inl (sym (refused-parts a).0)
       refused why p _ (solved given e full) a = never (cc)
 
   -- where 1 to 16 are passed, 20 comes exactly if the least solution leaves a wire unknown
   pub unknown-exactly : (given : Given) → given_of s memory input output ≡ result given
       → (values : List Value) → LeastSolution (given_round given) values
-      → ((p : ℕ) × ((rounds_call s memory input output).answer ≡ RefusedInRounds StaysUnknown p))
+      → ((p : ℕ) × ((rounds_call s memory input output).answer ≡ refused_at StaysUnknown p))
       ↔ SomeUnknown (wire_count given.sheet) values
   unfolding rounds_call finished
   unknown-exactly given passes values least = (forth, back)
@@ -179,7 +176,7 @@ module _ (s memory input output : List ℕ) where
       is-finished : values ≡ given_finished given
       is-finished = least-same (wire_count given.sheet) (given_round given) monotone least
 
-      forth : ((p : ℕ) × ((rounds_call s memory input output).answer ≡ RefusedInRounds StaysUnknown p))
+      forth : ((p : ℕ) × ((rounds_call s memory input output).answer ≡ refused_at StaysUnknown p))
           → SomeUnknown (wire_count given.sheet) values
       forth (p, a) =
           let u = demand2_answered.unknown p a in
@@ -193,7 +190,7 @@ module _ (s memory input output : List ℕ) where
           }
 
       back : SomeUnknown (wire_count given.sheet) values
-          → (p : ℕ) × ((rounds_call s memory input output).answer ≡ RefusedInRounds StaysUnknown p)
+          → (p : ℕ) × ((rounds_call s memory input output).answer ≡ refused_at StaysUnknown p)
       back some =
           let unknown : value_at (given_finished given) some.wire ≡ Unknown =
           ap (λ (xs : List Value). value_at xs some.wire) (sym is-finished) ∙ some.unknown in
@@ -202,12 +199,12 @@ module _ (s memory input output : List ℕ) where
   -- so where it does, the call names the lowest wire that waits for itself: one always exists
   pub loop-named : (given : Given) → given_of s memory input output ≡ result given
       → (values : List Value) → LeastSolution (given_round given) values → SomeUnknown (wire_count given.sheet) values
-      → (p : ℕ) × ((rounds_call s memory input output).answer ≡ RefusedInRounds StaysUnknown p) × UnknownAt p
+      → (p : ℕ) × ((rounds_call s memory input output).answer ≡ refused_at StaysUnknown p) × UnknownAt p
   loop-named given passes values least some =
       let (p, a) = (unknown-exactly given passes values least).1 some in (p, a, demand2_answered.unknown p a)
 
   -- the instant in rounds refuses with 1 to 16 and 20
-  pub rounds_refusals : {why : Refusal} {place : ℕ} → (rounds_call s memory input output).answer ≡ RefusedInRounds why place
+  pub rounds_refusals : {why : Refusal} {place : ℕ} → (rounds_call s memory input output).answer ≡ refused_at why place
       → ((number_of why ≤ 16) ⊎ (why ≡ StaysUnknown)) × (place ≤ 4096)
   unfolding rounds_call
   rounds_refusals {why} {place} a = go _ comes a
@@ -217,20 +214,19 @@ module _ (s memory input output : List ℕ) where
           let why-is : found ≡ why = cc in let place_is : at ≡ place = cc in rw (why-is, place_is) at w
       ranged result-within e = never (cc)
 
-      go : (x : Outcome Accepted) → Comes x → rounds_answer x ≡ RefusedInRounds why place
+      go : (x : Outcome Accepted) → Comes x → rounds_answer x ≡ refused_at why place
           → ((number_of why ≤ 16) ⊎ (why ≡ StaysUnknown)) × (place ≤ 4096)
       go _ (before {why = found} {p = at} e) a =
-          let why-is : found ≡ why = cc in
-          let place_is : at ≡ place = cc in
+          let (why-is, place_is) = refused-parts a in
           let w = ranged (given-within s memory input output) (rw (why-is, place_is) at e) in
           (inl w.number, w.bounded)
       go _ (left given e at) a =
-          let place_is : place_of_loop given (given_finished given) ≡ place = cc in
-          (inr (cc), omega (arith, (waiting-at given e at).lowest.in_range, few-wires s memory input output given e))
+          let (why-is, place_is) = refused-parts a in
+          (inr (sym why-is), omega (arith, (waiting-at given e at).lowest.in_range, few-wires s memory input output given e))
       go _ (solved given e full) a = never (cc)
 
   -- an accepted instant in rounds reports at most 65
-  pub rounds_few : {r : ℕ} → (rounds_call s memory input output).answer ≡ AcceptedInRounds r → r ≤ 65
+  pub rounds_few : {r : ℕ} → (rounds_call s memory input output).answer ≡ Ok r → r ≤ 65
   rounds_few {r} a =
       let accepted = demand2_answered.accepted r a in
       omega (arith, accepted.few, few-wires s memory input output accepted.given accepted.passes)
@@ -240,21 +236,21 @@ module _ (s memory input output : List ℕ) where
   rounds_packable = go (rounds_call s memory input output).answer refl
     where
       go : (answer : InRounds) → (rounds_call s memory input output).answer ≡ answer → Packable answer
-      go (RefusedInRounds why place) e = let within = (rounds_refusals e).1 in omega arith
-      go (AcceptedInRounds rounds) e = let few = rounds_few e in omega arith
+      go (Err refused) e = let within = (rounds_refusals e).1 in omega arith
+      go (Ok rounds) e = let few = rounds_few e in omega arith
 
   module _ (list : List ℕ) where
     -- the scheduled instant refuses with 1 to 19
-    pub scheduled-refusals : {why : Refusal} {place : ℕ} → (scheduled_call s memory input output list).answer ≡ RefusedScheduled why place
+    pub scheduled-refusals : {why : Refusal} {place : ℕ} → (scheduled_call s memory input output list).answer ≡ refused_at why place
         → Within 19 4096 why place
     unfolding scheduled_call
     scheduled-refusals {why} {place} a = go (scheduled-within s memory input output list) a
       where
-        go : {x : Outcome Accepted} → OutcomeWithin 19 x → scheduled_answer x ≡ RefusedScheduled why place → Within 19 4096 why place
+        go : {x : Outcome Accepted} → OutcomeWithin 19 x → scheduled_answer x ≡ refused_at why place → Within 19 4096 why place
         go (refusal-within {why = found} {place = at} w) e =
-            let why-is : found ≡ why = cc in let place_is : at ≡ place = cc in rw (why-is, place_is) at w
+            let (why-is, place_is) = refused-parts e in rw (why-is, place_is) at w
         go result-within e = never (cc)
 
     -- so it never answers 20, whatever the buffers and the list
-    pub scheduled-never-unknown : (place : ℕ) → (scheduled_call s memory input output list).answer ≡ RefusedScheduled StaysUnknown place → ⊥
+    pub scheduled-never-unknown : (place : ℕ) → (scheduled_call s memory input output list).answer ≡ refused_at StaysUnknown place → ⊥
     scheduled-never-unknown place a = omega (arith, (scheduled-refusals a).number)

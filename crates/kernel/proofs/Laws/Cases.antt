@@ -1,13 +1,12 @@
 -- What holds of single worked cases: the scheduled instant is refused on every list for the sheet of case L, and a round over false values keeps
 -- them.
+use Rattle.sheet.specs.Outcomes.{refused_at, Outcome, refusal, result, followed_by, lowest}
 use Rattle.std.specs.Prelude.{◌≡◌, refl, ℕ, zero, suc, true, List, [], ◌∷◌, pos}
 use Rattle.std.proofs.Common.{sym, ap, ◌∙◌, arith}
 use Rattle.numbers.specs.Numbers.{settled, equals}
 use Rattle.sheet.specs.Data.{boolean, number}
-use Rattle.sheet.specs.Expressions.{Expression, constant, wire, input, unary, binary, conditional, present_of, cell_count}
-use Rattle.sheet.specs.Expressions.{negative, sum}
+use Rattle.sheet.specs.Expressions.{Expression, constant, wire, input, unary, binary, conditional, present_of, cell_count, negative, sum}
 use Rattle.sheet.specs.Kinds.{meaning_of, operands_of}
-use Rattle.sheet.specs.Outcomes.{Outcome, refusal, result, followed_by, lowest}
 use Rattle.sheet.specs.Readings.{read_each, names_of, body_from, own_of, read_expression}
 use Rattle.sheet.specs.Headers.{field_of, bytes_of, section_of}
 use Rattle.sheet.specs.Sheets.{Sheet, kept_count, read_wires, outputs_from, wires_from, read_sheet, sheet_of}
@@ -22,16 +21,14 @@ use Rattle.kernel.specs.Systems as System
 use Rattle.kernel.specs.Systems.{Full}
 use Rattle.kernel.specs.Instants.{reads_at, values, round, finished}
 use Rattle.kernel.specs.Schedules.{entry_at, too_early, schedule_of, pass}
-use Rattle.kernel.specs.Calls.{Given, given_of, accepted_of, scheduled, scheduled_answer}
-use Rattle.kernel.specs.Calls.{scheduled_call}
+use Rattle.kernel.specs.Calls.{Given, given_of, accepted_of, scheduled, scheduled_answer, scheduled_call}
 use Rattle.kernel.specs.Cases.{crossed_sheet}
 use Rattle.kernel.proofs.Laws.Order.{not_known}
 use Rattle.kernel.proofs.Laws.Given.{given_by}
 use Rattle.kernel.proofs.Laws.Schedules.{Passed, schedule_passed, pass-full-of, pass-finished}
 use Rattle.kernel.specs.declared.Value.{Value}
 use Rattle.kernel.specs.declared.Value.TheVariants.{Unknown, Known}
-use Rattle.kernel.specs.declared.Scheduled.{Scheduled}
-use Rattle.kernel.specs.declared.Scheduled.TheVariants.{Refused}
+use Rattle.kernel.specs.Answers.{Scheduled}
 
 -- Case L: no list passes. Passing goes by reads alone. With `if` for `present` the sheet has the same reads, so that a list
 -- that passes would make all its wires known; yet they stay unknown.
@@ -85,7 +82,7 @@ crossed-no_schedule list here =
 pub record IsRefused (answer : Scheduled) : Type 0 where
   pub why : Refusal
   pub place : ℕ
-  pub refused : answer ≡ Refused why place
+  pub refused : answer ≡ refused_at why place
 
 pub crossed-refused : (memory row output list : List ℕ) → IsRefused (scheduled_call (crossed_sheet 13) memory row output list).answer
 unfolding scheduled_call scheduled

@@ -1,6 +1,6 @@
 -- Demands 2 and 3 of the order, for the outcomes of the calls: accepted just where the least solution is full, refused 20 just where
 -- it is not; and along any schedule the same answer, outputs and next memory as in rounds, whatever the output rows held.
-use Rattle.std.specs.Prelude.{◌≡◌, refl, false, List, ◌⊎◌, ltb}
+use Rattle.std.specs.Prelude.{Ok, ◌≡◌, refl, false, List, ◌⊎◌, ltb}
 use Rattle.std.proofs.Math.Path.{subst}
 use Prim.Native.Nat.{ℕ, suc, ◌≤◌, ◌<◌}
 use Rattle.std.proofs.Math.Bool.{Bool, true}
@@ -24,8 +24,6 @@ use Rattle.kernel.proofs.Laws.Solutions.{finished_solution, finished-least, only
 use Rattle.kernel.proofs.Laws.Schedules.{schedule_passes, passes_schedule, pass-full-of, pass-finished}
 use Rattle.kernel.specs.declared.Value.{Value}
 use Rattle.kernel.specs.declared.Value.TheVariants.{Unknown, Known}
-use Rattle.kernel.specs.declared.InRounds.TheVariants.{Accepted as AcceptedInRounds}
-use Rattle.kernel.specs.declared.Scheduled.TheVariants.{Accepted as AcceptedScheduled}
 
 not-unknown : (v : Value) → is_unknown v ≡ false → IsKnown v
 not-unknown Unknown e = never (cc)
@@ -130,8 +128,8 @@ pub record Demand3 (s memory input output other list : List ℕ) (given : Given)
   pub values : pass given.sheet given.inputs given.memory list ≡ given_finished given
   pub least : LeastSolution (given_round given) (given_finished given)
   pub full : Full (wire_count given.sheet) (given_finished given)
-  pub in_rounds_accepted : (rounds_call s memory input output).answer ≡ AcceptedInRounds (given_rounds given)
-  pub scheduled_accepted : (scheduled_call s memory input other list).answer ≡ AcceptedScheduled
+  pub in_rounds_accepted : (rounds_call s memory input output).answer ≡ Ok (given_rounds given)
+  pub scheduled_accepted : (scheduled_call s memory input other list).answer ≡ Ok tt
   pub same_memory : (rounds_call s memory input output).memory ≡ (scheduled_call s memory input other list).memory
   pub same_output : (rounds_call s memory input output).output ≡ (scheduled_call s memory input other list).output
   pub few : given_rounds given ≤ suc (wire_count given.sheet)

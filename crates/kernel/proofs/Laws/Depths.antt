@@ -1,6 +1,7 @@
 -- Depths, on a sheet that has a schedule: they are the only numbers as K6 has them; after k rounds every wire of depth at most k is known;
 -- and so every instant in rounds that passes 1 to 16 is accepted, and reports at most the greatest depth plus one.
-use Rattle.std.specs.Prelude.{◌≡◌, Bool, false, ◌⊎◌, ltb, length}
+use Rattle.std.specs.Prelude.{Ok, ◌≡◌, Bool, false, ◌⊎◌, ltb, length}
+use Rattle.sheet.specs.Outcomes.{refused_at, result}
 use Rattle.std.proofs.Math.Path.{refl, ap}
 use Rattle.std.proofs.Common.{sym, ap₂, subst, ◌∙◌, inl, inr, take_all, eqb-true, ltb-true, ltb-false}
 use Prim.Native.Nat.{ℕ, zero, suc, max, ◌≤◌, ◌<◌, zero-le}
@@ -11,7 +12,6 @@ use Rattle.std.proofs.Math.Logic.{⊎_elim}
 use Rattle.std.proofs.Math.Dec.{eqb}
 use Rattle.std.proofs.lemmas.Bool.{eqb-false}
 use Rattle.sheet.specs.Lists.{among}
-use Rattle.sheet.specs.Outcomes.{result}
 use Rattle.sheet.specs.Sheets.{Sheet, sheet_of}
 use Rattle.sheet.specs.Laws.Lists.{never, either, among-head, among-tail, every_holds, every-among, among-each}
 use Rattle.sheet.specs.Laws.Outcomes.{same-result}
@@ -26,6 +26,7 @@ use Rattle.kernel.specs.Systems.{Full, after}
 use Rattle.kernel.specs.Instants.{wire_count, reads_at, round, rounds}
 use Rattle.kernel.specs.Schedules.{entry_at, schedule_of, Earlier, IsSchedule}
 use Rattle.kernel.specs.Depths.{deepest, depth_within, Depths, depth_of, wires_below, Deepest, greatest_depth}
+use Rattle.kernel.specs.Answers.{InRounds}
 use Rattle.kernel.specs.Calls.{Given, given_of, rounds_call}
 use Rattle.kernel.proofs.Laws.Rounds.{rounds_full}
 use Rattle.kernel.proofs.Laws.Instants.{round_monotone, round-known}
@@ -34,9 +35,8 @@ use Rattle.kernel.proofs.Laws.Given.{given_by}
 use Rattle.kernel.proofs.Laws.Demands.{given_rounds, demand2, scheduled-accepted}
 use Rattle.kernel.proofs.Laws.Answers.{RefusedBefore, demand2_answered}
 use Rattle.kernel.specs.declared.Value.{Value}
-use Rattle.kernel.specs.declared.InRounds.TheVariants.{Refused as RefusedInRounds, Accepted as AcceptedInRounds}
 
-accepted-same : {r q : ℕ} → AcceptedInRounds r ≡ AcceptedInRounds q → r ≡ q
+accepted-same : {r q : ℕ} → ◌≡◌ {A = InRounds} (Ok r) (Ok q) → r ≡ q
 accepted-same e = cc
 
 -- The deepest of some wires: the least number that none of them passes.
@@ -255,7 +255,7 @@ module _ (s memory input output : List ℕ) where
   -- accepted with at most so many rounds
   pub record AcceptedWithin (most : ℕ) : Type 0 where
     pub rounds : ℕ
-    pub answers : (rounds_call s memory input output).answer ≡ AcceptedInRounds rounds
+    pub answers : (rounds_call s memory input output).answer ≡ Ok rounds
     pub few : rounds ≤ most
 
   -- K6 of the instant in rounds. This is the greatest depth of the sheet's wires; whatever passes 1 to 16 is accepted with at most one
@@ -265,8 +265,8 @@ module _ (s memory input output : List ℕ) where
     pub read : sheet_of s ≡ result sheet
     pub deepest : Deepest sheet greatest
     pub passed : (given : Given) → given_of s memory input output ≡ result given → AcceptedWithin (suc greatest)
-    pub accepted : (r : ℕ) → (rounds_call s memory input output).answer ≡ AcceptedInRounds r → r ≤ suc greatest
-    pub refused : (why : Refusal) (place : ℕ) → (rounds_call s memory input output).answer ≡ RefusedInRounds why place
+    pub accepted : (r : ℕ) → (rounds_call s memory input output).answer ≡ Ok r → r ≤ suc greatest
+    pub refused : (why : Refusal) (place : ℕ) → (rounds_call s memory input output).answer ≡ refused_at why place
         → RefusedBefore s memory input output why place
 
   accepted-by-depth : (given : Given) → given_of s memory input output ≡ result given → (list : List ℕ) → IsSchedule given.sheet list
@@ -302,14 +302,14 @@ module _ (s memory input output : List ℕ) where
           subst (λ x. AcceptedWithin (suc (greatest_depth x))) (sym same)
           (accepted-by-depth given passes list (subst (λ x. IsSchedule x list) same schedule))
 
-      few : (r : ℕ) → (rounds_call s memory input output).answer ≡ AcceptedInRounds r → r ≤ suc (greatest_depth sheet)
+      few : (r : ℕ) → (rounds_call s memory input output).answer ≡ Ok r → r ≤ suc (greatest_depth sheet)
       few r a =
           let after = (demand2_answered s memory input output).accepted r a in
           let at = within after.given after.passes in
           let same : at.rounds ≡ r = accepted-same (sym at.answers ∙ a) in
           rw same at at.few
 
-      refused : (why : Refusal) (place : ℕ) → (rounds_call s memory input output).answer ≡ RefusedInRounds why place
+      refused : (why : Refusal) (place : ℕ) → (rounds_call s memory input output).answer ≡ refused_at why place
           → RefusedBefore s memory input output why place
       refused why place a = go ((demand2_answered s memory input output).refused why place a)
         where

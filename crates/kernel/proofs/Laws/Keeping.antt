@@ -18,7 +18,7 @@ use Rattle.kernel.proofs.Laws.Instants.{round_monotone}
 use Rattle.kernel.proofs.Laws.Demands.{given_round}
 use Rattle.kernel.specs.declared.Value.{Value}
 use Rattle.kernel.specs.declared.Value.TheVariants.{Unknown, Known}
-use Rattle.kernel.specs.declared.InRounds.{InRounds}
+use Rattle.kernel.specs.Answers.{InRounds}
 
 renewed-length : (worked : ℕ → Value) (vs : List Value) → length (renewed worked vs) ≡ length vs
 unfolding renewed

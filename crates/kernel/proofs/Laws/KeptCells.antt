@@ -1,6 +1,6 @@
 -- Document 02, K7, from the answer of the call: each accepted instant stores a kept wire's value in the wire's cell, whatever resets and
 -- arms its expression has, and kind 18 gives it in the next instant, fresh or not.
-use Rattle.std.specs.Prelude.{ℕ, suc, ◌+◌, ◌<◌, ◌≡◌, refl, Bool, true, List, ◌∷◌, length, get_or, drop}
+use Rattle.std.specs.Prelude.{Ok, ℕ, suc, ◌+◌, ◌<◌, ◌≡◌, refl, Bool, true, List, ◌∷◌, length, get_or, drop}
 use Rattle.std.proofs.Math.Path.{sym, ap}
 use Rattle.std.proofs.Common.{◌∙◌, add-zero, arith, get_or-take, get_or-drop}
 use Rattle.std.proofs.Math.Bool.{false}
@@ -26,8 +26,6 @@ use Rattle.kernel.proofs.Laws.Typing.{valid-from-start}
 use Rattle.kernel.proofs.Laws.Lasts.{kept-held}
 use Rattle.kernel.proofs.Laws.Accepted.{solved, equations, final, final-typed, wire-holds, memory_after_lem, AsInRounds, as_in_rounds}
 use Rattle.kernel.specs.declared.Value.TheVariants.{Known}
-use Rattle.kernel.specs.declared.InRounds.TheVariants.{Accepted}
-use Rattle.kernel.specs.declared.Scheduled.TheVariants.{Accepted as AcceptedScheduled}
 
 -- no reset touches what kind 18 gives
 pub last-untouched : (now : Environment) (fresh : Bool) (w k : ℕ) → value now fresh (last w) k ≡ Known (last_at now.lasts w)
@@ -48,7 +46,7 @@ kept-view (pre d a) is = never (cc)
 kept-view (fby t a b) is = never (cc)
 kept-view (kept t a) is = (t, a, refl)
 
-module _ (s memory input output : List ℕ) {r : ℕ} (accepted : (rounds_call s memory input output).answer ≡ Accepted r) where
+module _ (s memory input output : List ℕ) {r : ℕ} (accepted : (rounds_call s memory input output).answer ≡ Ok r) where
   -- after the instant, of a wire: the first of its cells, and what kind 18 gives from then on
   pub record KeptAfter (w : ℕ) : Type 0 where
     pub cells : List Cell
@@ -88,7 +86,7 @@ module _ (s memory input output : List ℕ) {r : ℕ} (accepted : (rounds_call s
 
 -- the same along a schedule
 module _ (s memory input output list : List ℕ) where
-  pub kept-along : (scheduled_call s memory input output list).answer ≡ AcceptedScheduled
+  pub kept-along : (scheduled_call s memory input output list).answer ≡ Ok tt
       → (i : AsInRounds s memory input output list) × ((w : ℕ) → w < length (equations s memory input output i.accepted)
       → is_kept (get_or s (2 + get_or s 0 0 + w) 0) ≡ true → KeptAfter s memory input output i.accepted w)
   kept-along a = let i = as_in_rounds s memory input output list a in (i, kept-after s memory input output i.accepted)

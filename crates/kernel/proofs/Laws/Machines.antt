@@ -1,6 +1,6 @@
 -- Document 02, K8, from the answer of the call: in an accepted instant every machine that runs, wherever it stands and fresh or not, asks the condition
 -- of its state, has the value of the body that this leads to, and leaves in its cells the state whose body ran and what its operands store.
-use Rattle.std.specs.Prelude.{ℕ, suc, ◌+◌, ◌<◌, ◌≡◌, refl, Bool, true, false, ◌||◌, cond, List, ◌∷◌, ◌++◌, length, take, drop}
+use Rattle.std.specs.Prelude.{Ok, ℕ, suc, ◌+◌, ◌<◌, ◌≡◌, refl, Bool, true, false, ◌||◌, cond, List, ◌∷◌, ◌++◌, length, take, drop}
 use Rattle.std.proofs.Common.{ap, ◌∙◌, append_assoc}
 use Rattle.sheet.specs.Data.{ValueType, boolean}
 use Rattle.sheet.specs.Expressions.{Expression, machine_of, state_cell, cell_forms, cell_count}
@@ -24,8 +24,6 @@ use Rattle.kernel.proofs.Laws.Running.{part, part_left, tree-runs}
 use Rattle.kernel.proofs.Laws.Accepted.{solved, equations, final, final-typed, equation_typed, wire-holds, memory_after_lem, AsInRounds, as_in_rounds}
 use Rattle.kernel.specs.declared.Value.{Value}
 use Rattle.kernel.specs.declared.Value.TheVariants.{Known}
-use Rattle.kernel.specs.declared.InRounds.TheVariants.{Accepted}
-use Rattle.kernel.specs.declared.Scheduled.TheVariants.{Accepted as AcceptedScheduled}
 
 -- What a machine does that runs, fresh or not, its cell having number k.
 module _ (now : Environment) (fresh : Bool) (c d a b : Expression) (k : ℕ) where
@@ -93,7 +91,7 @@ module _ (input_types wire_types : List ValueType) (now : Environment) (on_input
       let (holds, asked) = a-Boolean (picked (Has boolean) state first (has-Boolean d fresh (suc k + cell_count c) h.0.1 m₂)) in
       record { state = state; current = current; holds = holds; asked = asked }
 
-module _ (s memory input output : List ℕ) {r : ℕ} (accepted : (rounds_call s memory input output).answer ≡ Accepted r) where
+module _ (s memory input output : List ℕ) {r : ℕ} (accepted : (rounds_call s memory input output).answer ≡ Ok r) where
   -- of a machine that ran, fresh or not, its cell having number k: its state before and the condition asked, what it gave, and the cells that the
   -- instant leaves of it
   pub record MachineAfter (fresh : Bool) (c d a b : Expression) (k : ℕ) : Type 0 where
@@ -151,7 +149,7 @@ module _ (s memory input output : List ℕ) {r : ℕ} (accepted : (rounds_call s
 
 -- the same along a schedule
 module _ (s memory input output list : List ℕ) where
-  pub machine-along : (scheduled_call s memory input output list).answer ≡ AcceptedScheduled
+  pub machine-along : (scheduled_call s memory input output list).answer ≡ Ok tt
       → (i : AsInRounds s memory input output list) × ((w : ℕ) → w < length (equations s memory input output i.accepted)
       → (fresh : Bool) (c d a b : Expression) (k : ℕ)
       → RunsIn (final s memory input output i.accepted) fresh (machine_of c d a b) k

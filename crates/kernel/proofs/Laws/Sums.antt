@@ -1,6 +1,6 @@
 -- Document 02, K2: add, subtract and negate stop at the ends. What one of them gives is the nearest number of 32 bits to the exact result
 -- of its operands' numbers: wherever the expression stands, and of every wire in an accepted instant, from the answer of the call.
-use Rattle.std.specs.Prelude.{ℕ, suc, ◌+◌, ◌<◌, ◌≡◌, refl, Bool, false, List, ◌++◌, ℤ, neg_ℤ, ◌+ℤ◌, ◌-ℤ◌, length}
+use Rattle.std.specs.Prelude.{Ok, ℕ, suc, ◌+◌, ◌<◌, ◌≡◌, refl, Bool, false, List, ◌++◌, ℤ, neg_ℤ, ◌+ℤ◌, ◌-ℤ◌, length}
 use Rattle.numbers.proofs.Laws.Nearest.{Nearest, settled-nearest}
 use Rattle.sheet.specs.Data.{ValueType, number}
 use Rattle.sheet.specs.Expressions.{Expression, unary, binary, kept, negative, sum, difference, cell_forms, cell_count}
@@ -15,7 +15,6 @@ use Rattle.kernel.proofs.Laws.Typing.{OnWires, ValidFrom, parts, has_inherited, 
 use Rattle.kernel.proofs.Laws.Accepted.{solved, equations, final, final-typed, equation_typed, wire-holds}
 use Rattle.kernel.specs.declared.Value.{Value}
 use Rattle.kernel.specs.declared.Value.TheVariants.{Known}
-use Rattle.kernel.specs.declared.InRounds.TheVariants.{Accepted}
 
 -- the expressions that the request speaks of, also as those of a kept wire
 pub data Sums : Expression → Type 0 where
@@ -80,7 +79,7 @@ module _ (input_types wire_types : List ValueType) (now : Environment)
   exact-of (keeps sums) fresh k t typed cells =
       let (z, exact) = exact-of sums fresh (suc k) t typed.1 cells.2 in (z, kept-exact exact)
 
-module _ (s memory input output : List ℕ) {r : ℕ} (accepted : (rounds_call s memory input output).answer ≡ Accepted r) where
+module _ (s memory input output : List ℕ) {r : ℕ} (accepted : (rounds_call s memory input output).answer ≡ Ok r) where
   -- each wire that adds, subtracts or negates has an exact result, and its value is the nearest number
   pub wire-stops : (w : ℕ) → w < length (equations s memory input output accepted) → Sums (expression_at (equations s memory input output accepted) w)
       → (z : ℤ)

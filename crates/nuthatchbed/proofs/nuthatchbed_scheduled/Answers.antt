@@ -8,21 +8,21 @@ use Rattle.nuthatchbed.proofs.nuthatchbed_scheduled.Goals as goal
 pub packed-requires : goal.packed-requires
 packed-requires c =
     let within = (scheduled-refusals _ _ _ _ _ (sym c.instant.ensures.answers
-    ∙ c.in-Refused.is)).bounded in
-    rw c.at.ensures (omega arith)
+    ∙ c.in-Err.is)).bounded in
+    omega arith
 
-pub returns-in-Refused : goal.returns-in-Refused
-returns-in-Refused c = let ensured = c.instant.ensures in
+pub returns-in-Err : goal.returns-in-Err
+returns-in-Err c = let ensured = c.instant.ensures in
     record {
-      value = (rw c.at.ensures at c.packed.ensures) ∙ ap packed_scheduled (sym c.in-Refused.is ∙ ensured.answers);
+      value = c.packed.ensures ∙ ap packed_scheduled (sym c.in-Err.is ∙ ensured.answers);
       memory_after = ensured.stores;
       output_after = ensured.writes;
     }
 
-pub returns-in-Accepted : goal.returns-in-Accepted
-returns-in-Accepted c = let ensured = c.instant.ensures in
+pub returns-in-Ok : goal.returns-in-Ok
+returns-in-Ok c = let ensured = c.instant.ensures in
     record {
-      value = ap packed_scheduled (sym c.in-Accepted.is ∙ ensured.answers);
+      value = ap packed_scheduled (sym c.in-Ok.is ∙ ensured.answers);
       memory_after = ensured.stores;
       output_after = ensured.writes;
     }

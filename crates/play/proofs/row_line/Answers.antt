@@ -24,10 +24,10 @@ slice_bounds-instant-end-5 c = sym (length-take-le _ _ c.requires.ready.0.output
 
 pub refused_line-requires : goal.refused_line-requires
 refused_line-requires c =
-    (search rules, (rounds_refusals _ _ _ _ (sym c.instant.ensures.answers ∙ c.in-Refused.is)).1)
+    (search rules, (rounds_refusals _ _ _ _ (sym c.instant.ensures.answers ∙ c.in-Err.is)).1)
 
-pub slice_bounds-output-end-in-Accepted : goal.slice_bounds-output-end-in-Accepted
-slice_bounds-output-end-in-Accepted c =
+pub slice_bounds-output-end-in-Ok : goal.slice_bounds-output-end-in-Ok
+slice_bounds-output-end-in-Ok c =
     omega (
       arith,
       length_front (zeros 64) c.instant.new.output c.args.progress.output c.instant.auto.output,
@@ -56,15 +56,15 @@ next_instant-progress-requires c =
     let within = row_fits c.args.bytes.now c.args.progress c.requires.ready.0 c.requires.ready.1 in
     (c.requires.ready.1, omega (arith, c.requires.ready.1, c.requires.ready.0.turns), omega (arith, within, c.requires.room.few))
 
-pub returns-in-Refused : goal.returns-in-Refused
-returns-in-Refused c =
+pub returns-in-Err : goal.returns-in-Err
+returns-in-Err c =
     final c.final_line.ensures c.refused_line.ensures
     (refused-text c.args.bytes.now c.args.progress c.requires.ready.0 c.requires.ready.1 c.args.memory.now
-    c.sheet_length-end.ensures.value c.instant.ensures c.in-Refused.is)
+    c.sheet_length-end.ensures.value c.instant.ensures c.in-Err.is)
 
-pub returns-in-Accepted : goal.returns-in-Accepted
-returns-in-Accepted c =
+pub returns-in-Ok : goal.returns-in-Ok
+returns-in-Ok c =
     accepted-line c.args.bytes.now c.args.progress c.requires.ready.0 c.requires.ready.1 c.args.memory.now
-    c.sheet_length-end.ensures.value c.instant.ensures c.in-Accepted.is
+    c.sheet_length-end.ensures.value c.instant.ensures c.in-Ok.is
     c.requires.room.cells
     c.instant.auto.memory c.instant.auto.output c.next_instant-progress.ensures c.row_line-size.ensures

@@ -9,43 +9,27 @@ use Rattle.schedule.proofs.Ordering.{none_named, one-more-named, early}
 use Rattle.schedule.proofs.first_too_early.Goals as goal
 
 pub loop-p-init : goal.loop-p-init
-loop-p-init c = (omega arith, none_named _ c.none-named.ensures, λ reads_of held j h. absurd (omega arith))
-
-pub overflow_cast-wire : goal.overflow_cast-wire
-overflow_cast-wire c = omega (arith, c.shared_slice_known-in-loop-p-1.given c.loop-p.p)
-
-pub offset_bounds-reads-wire : goal.offset_bounds-reads-wire
-offset_bounds-reads-wire c = omega (arith, c.shared_slice_known-in-loop-p-1.given c.loop-p.p)
-
-pub bounds-reads-wire : goal.bounds-reads-wire
-bounds-reads-wire c =
-    let pre = c.requires in
-    omega (arith, pre.2 c.loop-p.p c.loop-p-test.true)
-
-pub with-grown-requires : goal.with-grown-requires
-with-grown-requires c =
-    let pre = c.requires in
-    omega (arith, pre.2 c.loop-p.p c.loop-p-test.true)
+loop-p-init c = (none_named _ c.none-named.ensures, λ reads_of held j h. absurd (omega arith))
 
 pub returns-then-not-within : goal.returns-then-not-within
 returns-then-not-within c reads_of held =
     let at = c.loop-p in
     let pre = c.requires in
-    (lowest-is _ _ at.p at.invariant.0
-    (λ more. early _ reads_of at.p at.invariant.1 (held _ (pre.2 at.p more)) c.within.ensures ∙ ap not c.if-not-within.true)
-    (at.invariant.2 reads_of held))
+    (lowest-is _ _ at.p at.auto.p-end
+    (λ more. early _ reads_of at.p at.invariant.0 (held _ (pre.2 at.p more)) c.within.ensures ∙ ap not c.if-not-within.true)
+    (at.invariant.1 reads_of held))
 
 pub loop-p-preserved : goal.loop-p-preserved
 loop-p-preserved c =
     let at = c.loop-p in
     let pre = c.requires in
     let wire = pre.2 at.p c.loop-p-test.true in (
-      omega arith,
-      one-more-named _ (omega (arith, pre.1)) at.invariant.1 c.with-grown.ensures,
-      λ reads_of held. below_more _ at.p (at.invariant.2 reads_of held)
-          (early _ reads_of at.p at.invariant.1 (held _ wire) c.within.ensures ∙ ap not c.if-not-within.false),
+      one-more-named _ (omega (arith, pre.1)) at.invariant.0 c.with-grown.ensures,
+      λ reads_of held. below_more _ at.p (at.invariant.1 reads_of held)
+          (early _ reads_of at.p at.invariant.0 (held _ wire) c.within.ensures ∙ ap not c.if-not-within.false),
     )
 
 pub returns : goal.returns
 returns c reads_of held =
-    let at = c.loop-p in (lowest-is _ _ at.p at.invariant.0 (λ h. absurd (omega arith)) (at.invariant.2 reads_of held))
+    lowest-is _ _ _ (omega arith) (λ more. absurd (omega arith))
+    (λ j l. c.loop-p.invariant.1 reads_of held j (omega (arith, c.loop-p-test.false)))

@@ -1,6 +1,6 @@
 -- `first_too_early` finds the first position that check 19 refuses. The loop's invariant: the positions passed are not refused, and
 -- the set holds just their entries.
-use Prim.Native.Nat.{ℕ, ◌≤◌, ◌<◌, ◌-◌}
+use Prim.Native.Nat.{ℕ, ◌<◌}
 use mathlib.Core.Path.{◌≡◌}
 use mathlib.Core.Bool.{false}
 use mathlib.Core.List.{List}
@@ -11,9 +11,6 @@ use Rattle.schedule.proofs.first_too_early.Given as goal
 
 abbrev pub invariant-loop-p : goal.invariant-loop-p
 invariant-loop-p l =
-    (l.p ≤ l.wires) × Holds l.list l.p l.named.bits
+    Holds l.list l.p l.named.bits
     × ((reads_of : ℕ → List ℕ) → EachHoldsJust l.reads l.wires reads_of → (j : ℕ) → j < l.p
     → too_early l.list reads_of j ≡ false)
-
-abbrev pub decreases-loop-p : goal.decreases-loop-p
-decreases-loop-p l = l.wires - l.p

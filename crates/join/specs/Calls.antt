@@ -1,23 +1,21 @@
 -- What the call that joins two sheets comes to: 1 to 11 of the first, then of the second, 23, 16, or the joined bytes.
-use Rattle.std.specs.Prelude.{ℕ, ◌+◌, ◌<◌, ◌≡◌, Bool, ◌||◌, cond, List, eqb, ltb, length}
+use Rattle.std.specs.Prelude.{ℕ, ◌+◌, ◌<◌, ◌≡◌, Bool, ◌||◌, cond, List, Result, Ok, Err, eqb, ltb, length}
 use Rattle.sheet.specs.Outcomes.{packed_refusal}
 use Rattle.sheet.specs.Sheets.{check_of}
+use Rattle.sheet.specs.declared.Refused.{Refused}
 use Rattle.sheet.specs.declared.Refusal.{Refusal}
 use Rattle.sheet.specs.declared.Refusal.TheVariants.{OutputLength, JoinedLimit}
 use Rattle.join.specs.Bytes.{joined_bytes}
 use Rattle.sheet.specs.declared.Counts.{Counts}
-use Rattle.join.specs.declared.Joining.{Joining}
-use Rattle.join.specs.declared.Joining.TheVariants.{FirstRefused, SecondRefused, Refused, Done}
-use Rattle.sheet.specs.declared.Refused.{Refused as SheetRefused}
-use Rattle.std.specs.Prelude.{Ok, Err}
-use Rattle.std.specs.Prelude.{Result}
+use Rattle.join.specs.declared.NotJoined.{NotJoined}
+use Rattle.join.specs.declared.NotJoined.TheVariants.{First, Second, Joined}
 
 -- the check's answer about a sheet that passes with these counts
-abbrev pub passed_with : Counts → Result Counts SheetRefused
+abbrev pub passed_with : Counts → Result Counts Refused
 passed_with counts = Ok counts
 
-abbrev pub on_checked : {A : Type 0} → Result Counts SheetRefused → (Refusal → ℕ → A) → (Counts → A) → A
-on_checked (Err r) f g = f r.why r.place
+abbrev pub on_checked : {A : Type 0} → Result Counts Refused → (Refused → A) → (Counts → A) → A
+on_checked (Err refused) f g = f refused
 on_checked (Ok counts) f g = g counts
 
 -- a joined count or the joined length is above its limit
@@ -29,21 +27,27 @@ is_above first second long =
     || ltb 64 (first.cells + second.cells)
     || ltb 4096 long
 
+-- what joining answers: why it does not, or nothing
+abbrev pub Joining : Type 0
+Joining = Result (Unit {0}) NotJoined
+
+-- a refusal of what two sheets would be joined into
+abbrev pub refused_both : Refusal → Joining
+refused_both why = Err (Joined (record { why = why; place = 0 }))
+
 -- the answer, where the lent buffer has `room` bytes
 unfoldable pub join_answer : (s t : List ℕ) (room : ℕ) → Joining
 join_answer s t room =
     let long = length (joined_bytes s t) in
-    on_checked (check_of s) FirstRefused (λ first.
-    on_checked (check_of t) SecondRefused (λ second.
-    cond (is_above first second long) (Refused JoinedLimit 0)
-    (cond (eqb room long) Done (Refused OutputLength 0))))
+    on_checked (check_of s) (λ refused. Err (First refused)) (λ first.
+    on_checked (check_of t) (λ refused. Err (Second refused)) (λ second.
+    cond (is_above first second long) (refused_both JoinedLimit)
+    (cond (eqb room long) (Ok tt) (refused_both OutputLength))))
 
 -- what the buffer holds then: after a refusal what it held before
 abbrev pub held_after : Joining → (bytes before : List ℕ) → List ℕ
-held_after (FirstRefused why place) bytes before = before
-held_after (SecondRefused why place) bytes before = before
-held_after (Refused why place) bytes before = before
-held_after Done bytes before = bytes
+held_after (Err reason) bytes before = before
+held_after (Ok done) bytes before = bytes
 
 -- what the call leaves
 pub record JoinCall : Type 0 where
@@ -61,14 +65,14 @@ pub record Leaves (call : JoinCall) (answer : Joining) (joined : List ℕ) : Typ
 
 -- the answer as one number: 0, or a refusal, with the highest of 32 bits where it is the second sheet's
 abbrev pub packed_joining : Joining → ℕ
-packed_joining (FirstRefused why place) = packed_refusal why place
-packed_joining (SecondRefused why place) = 2147483648 + packed_refusal why place
-packed_joining (Refused why place) = packed_refusal why place
-packed_joining Done = 0
+packed_joining (Err (First refused)) = packed_refusal refused.why refused.place
+packed_joining (Err (Second refused)) = 2147483648 + packed_refusal refused.why refused.place
+packed_joining (Err (Joined refused)) = packed_refusal refused.why refused.place
+packed_joining (Ok done) = 0
 
 -- a place has room in such a number
 abbrev pub PackableJoining : Joining → Type 0
-PackableJoining (FirstRefused why place) = place < 65536
-PackableJoining (SecondRefused why place) = place < 65536
-PackableJoining (Refused why place) = place < 65536
-PackableJoining Done = Unit {0}
+PackableJoining (Err (First refused)) = refused.place < 65536
+PackableJoining (Err (Second refused)) = refused.place < 65536
+PackableJoining (Err (Joined refused)) = refused.place < 65536
+PackableJoining (Ok done) = Unit {0}

@@ -1,14 +1,12 @@
-// Two sheets into one: what joining answers. The definitions and theorems are in specs/. Rests on `sheet` for refusals.
+// Two sheets into one: why they are not joined. The definitions and theorems are in specs/. Rests on `sheet` for refusals.
 #![tactic(auto)]
 
-use sheet::Refusal;
+use sheet::Refused;
 
-// What joining two sheets answers: a refusal of the first or of the second, with its place in that sheet; another refusal; or that the joined
-// sheet is written.
+// Why two sheets are not joined: a refusal of the first or of the second, with its place in that sheet, or of what they would be joined into.
 #[derive(Clone, Copy)]
-pub enum Joining {
-    FirstRefused { why: Refusal, place: usize },
-    SecondRefused { why: Refusal, place: usize },
-    Refused { why: Refusal, place: usize },
-    Done,
+pub enum NotJoined {
+    First(Refused),
+    Second(Refused),
+    Joined(Refused),
 }

@@ -3,25 +3,40 @@ use Prim.Native.Nat.{ℕ, ◌+◌, ◌-◌, ◌≤◌}
 use mathlib.Core.Path.{◌≡◌, refl}
 use mathlib.Core.Bool.{true, false}
 use mathlib.Core.List.{List}
+use Rattle.std.specs.Prelude.{Result, Ok, Err}
+use Rattle.std.specs.Result.{MatchResult, IsErrAnd}
 use native.Mathlib.Omega.{arith}
 use lib.ListN.{length}
 use borrow.Author.Tests.{eq-eqb, ne_eqb}
 use Rattle.sheet.specs.Sheets.{check_of}
 use Rattle.sheet.proofs.Laws.Typing.{sheet-reads}
-use Rattle.sheet.specs.declared.Refusal.{Refusal}
+use Rattle.sheet.specs.Laws.Lists.{never}
+use Rattle.sheet.specs.declared.Refused.{Refused}
 use Rattle.sheet.specs.declared.Refusal.TheVariants.{OutputLength, JoinedLimit}
 use Rattle.join.specs.Bytes.{joined_bytes}
-use Rattle.join.specs.Calls.{is_above, join_answer, join_call, Leaves}
+use Rattle.join.specs.Calls.{is_above, passed_with, refused_both, join_answer, join_call, Leaves}
 use Rattle.join.proofs.Laws.Bytes.{joined_length}
-use Rattle.join.specs.declared.Joining.TheVariants.{FirstRefused, SecondRefused, Refused, Done}
+use Rattle.join.specs.declared.NotJoined.TheVariants.{First, Second}
 use Rattle.joining.specs.Counting.{Passes, Few}
 use Rattle.joining.specs.Writing.{Joinable}
 use Rattle.joining.proofs.Cutting.{found-by}
 use Rattle.sheet.specs.declared.Counts.{Counts}
 use Rattle.sheet.specs.Outcomes.{refused_at}
 
-pub first_stops : (s t buffer : List ℕ) {why : Refusal} {place : ℕ} → check_of s ≡ refused_at why place
-    → Leaves (join_call s t buffer) (FirstRefused why place) buffer
+-- an error that `map_err` made is made of one
+pub made-of : {T E F : Type 0} (f : E → F) {x : F} (r : Result T E)
+    → MatchResult r (λ t. Err x ≡ Ok t) (λ e. IsErrAnd {T = T} (Err x) (λ y. y ≡ f e)) → (e : E) × (x ≡ f e) × (r ≡ Err e)
+made-of f (Ok t) m = never (cc m)
+made-of f (Err e) m = (e, m, refl)
+
+-- and a value that it passed on is that
+pub taken-of : {T E F : Type 0} (f : E → F) {x : T} (r : Result T E)
+    → MatchResult r (λ t. ◌≡◌ {A = Result T F} (Ok x) (Ok t)) (λ e. IsErrAnd {T = T} {E = F} (Ok x) (λ y. y ≡ f e)) → r ≡ Ok x
+taken-of f (Ok t) m = cc
+taken-of f (Err e) m = absurd m
+
+pub first_stops : (s t buffer : List ℕ) {refused : Refused} → check_of s ≡ Err refused
+    → Leaves (join_call s t buffer) (Err (First refused)) buffer
 unfolding join_call join_answer
 first_stops s t buffer e = rw e (record { answers = refl; writes = refl })
 
@@ -31,8 +46,8 @@ module _ (s : List ℕ) {counts : Counts} (passes : Passes s counts) where
       let found = found-by s passes in
       record { inputs = found.few-inputs; wires = found.few-wires; outputs = found.few-outputs; cells = found.few-cells }
 
-  pub second-stops : (t buffer : List ℕ) {why : Refusal} {place : ℕ} → check_of t ≡ refused_at why place
-      → Leaves (join_call s t buffer) (SecondRefused why place) buffer
+  pub second-stops : (t buffer : List ℕ) {refused : Refused} → check_of t ≡ Err refused
+      → Leaves (join_call s t buffer) (Err (Second refused)) buffer
   unfolding join_call join_answer
   second-stops t buffer e = rw (passes, e) (record { answers = refl; writes = refl })
 
@@ -50,14 +65,14 @@ module _ (s t : List ℕ) {counts others : Counts} (first : Passes s counts) (se
   sized = omega (arith, joined-sized)
 
   module _ (buffer : List ℕ) where
-    pub above-limits : is_above counts others (length s + length t - 3) ≡ true → Leaves (join_call s t buffer) (Refused JoinedLimit 0) buffer
+    pub above-limits : is_above counts others (length s + length t - 3) ≡ true → Leaves (join_call s t buffer) (refused_both JoinedLimit) buffer
     unfolding join_call join_answer
     above-limits above =
         rw (first, second, ← sized, above)
         (record { answers = refl; writes = refl })
 
     module _ (within : is_above counts others (length s + length t - 3) ≡ false) where
-      pub other_length_lem : (length buffer ≡ length s + length t - 3 → ⊥) → Leaves (join_call s t buffer) (Refused OutputLength 0) buffer
+      pub other_length_lem : (length buffer ≡ length s + length t - 3 → ⊥) → Leaves (join_call s t buffer) (refused_both OutputLength) buffer
       unfolding join_call join_answer
       other_length_lem other =
           rw (first, second, ← sized, within, ne_eqb (length buffer) (length s + length t - 3) other)
@@ -75,7 +90,7 @@ module _ (s t : List ℕ) {counts others : Counts} (first : Passes s counts) (se
               sized = omega (arith, long);
             }
 
-        pub joins : {after : List ℕ} → after ≡ joined_bytes s t → Leaves (join_call s t buffer) Done after
+        pub joins : {after : List ℕ} → after ≡ joined_bytes s t → Leaves (join_call s t buffer) (Ok tt) after
         unfolding join_call join_answer
         joins e =
             rw (first, second, ← sized, within, eq-eqb (length buffer) (length s + length t - 3) room)

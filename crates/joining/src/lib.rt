@@ -8,35 +8,17 @@ ghost use Rattle.std.specs.Prelude.{◌≡◌};
 ghost use Rattle.join.specs.Calls.{is_above, join_call, Leaves, packed_joining, PackableJoining};
 ghost use Rattle.joining.specs.Counting.{Passes, Few};
 
-use join::Joining;
+use join::NotJoined;
 use sheet::{Counts, Refusal};
 
 // Joins two sheets: 1 to 11 of the first, then of the second, 23 where a joined count or length is above its limit, 16 where the buffer has
 // not the joined length; else the buffer gets the joined sheet.
-pub fn join(first: &[u8], second: &[u8], joined: &mut [u8]) -> Joining
+pub fn join(first: &[u8], second: &[u8], joined: &mut [u8]) -> Result<(), NotJoined>
     ensures { Leaves (join_call first.now second.now joined.old) result joined.new }
 {
-    match sheet_check::check(first) {
-        Err(refused) => Joining::FirstRefused {
-            why: refused.why,
-            place: refused.place,
-        },
-        Ok(counts) => join_to(first, counts, second, joined),
-    }
-}
-
-// Joins a second sheet to one that passes, with these counts.
-fn join_to(first: &[u8], counts: Counts, second: &[u8], joined: &mut [u8]) -> Joining
-    requires { Passes first.now counts }
-    ensures { Leaves (join_call first.now second.now joined.old) result joined.new }
-{
-    match sheet_check::check(second) {
-        Err(refused) => Joining::SecondRefused {
-            why: refused.why,
-            place: refused.place,
-        },
-        Ok(others) => join_both(first, counts, second, others, joined),
-    }
+    let counts = sheet_check::check(first).map_err(NotJoined::First)?;
+    let others = sheet_check::check(second).map_err(NotJoined::Second)?;
+    join_both(first, counts, second, others, joined)
 }
 
 // Joins two sheets that pass, with these counts. Their headers have six counts, and that of the joined sheet has three.
@@ -46,25 +28,19 @@ fn join_both(
     second: &[u8],
     others: Counts,
     joined: &mut [u8],
-) -> Joining
+) -> Result<(), NotJoined>
     requires { Passes first.now counts × Passes second.now others }
     ensures { Leaves (join_call first.now second.now joined.old) result joined.new }
 {
     let length = first.len() + second.len() - 3;
     if is_above(counts, others, length) {
-        return Joining::Refused {
-            why: Refusal::JoinedLimit,
-            place: 0,
-        };
+        return Err(NotJoined::Joined(Refusal::JoinedLimit.at(0)));
     }
     if joined.len() != length {
-        return Joining::Refused {
-            why: Refusal::OutputLength,
-            place: 0,
-        };
+        return Err(NotJoined::Joined(Refusal::OutputLength.at(0)));
     }
     writing::write(first, second, joined);
-    Joining::Done
+    Ok(())
 }
 
 // Whether a joined count or the joined length is above its limit.
@@ -80,14 +56,13 @@ fn is_above(counts: Counts, others: Counts, length: usize) -> bool
 }
 
 // The answer as one number: 0, or the packed refusal, with the highest of 32 bits where it is the second sheet's.
-pub fn packed(answer: Joining) -> u32
+pub fn packed(answer: Result<(), NotJoined>) -> u32
     requires { PackableJoining answer }
     ensures { result ≡ packed_joining answer }
 {
     match answer {
-        Joining::FirstRefused { why, place } => why.at(place).packed(),
-        Joining::SecondRefused { why, place } => 2147483648 + why.at(place).packed(),
-        Joining::Refused { why, place } => why.at(place).packed(),
-        Joining::Done => 0,
+        Ok(()) => 0,
+        Err(NotJoined::Second(refused)) => 2147483648 + refused.packed(),
+        Err(NotJoined::First(refused) | NotJoined::Joined(refused)) => refused.packed(),
     }
 }

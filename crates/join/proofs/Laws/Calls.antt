@@ -1,6 +1,6 @@
 -- What the call that joins two sheets promises, from its answer: refused, it says why and writes nothing; else the buffer has a sheet that passes the
 -- check with the sums of the counts, starts with the two memories joined, and has the instants of both.
-use Rattle.std.specs.Prelude.{◌≡◌, ℕ, ◌+◌, ◌*◌, ◌<◌, Bool, ◌||◌, ◌↔◌, eqb}
+use Rattle.std.specs.Prelude.{◌≡◌, ℕ, ◌+◌, ◌*◌, ◌<◌, Bool, ◌||◌, ◌↔◌, Ok, Err, eqb}
 use Rattle.std.proofs.Math.Path.{refl}
 use Rattle.std.proofs.Common.{sym, ap, subst, ◌∙◌, arith}
 use Rattle.std.proofs.Math.Bool.{true, false}
@@ -16,16 +16,16 @@ use Rattle.sheet.specs.Laws.Lists.{never}
 use Rattle.sheet.specs.Laws.Outcomes.{same-result}
 use Rattle.sheet.specs.Laws.Refusals.{check_refusals}
 use Rattle.sheet.proofs.Laws.Typing.{passed_check}
+use Rattle.sheet.specs.declared.Refused.{Refused}
 use Rattle.sheet.specs.declared.Refusal.{Refusal}
 use Rattle.sheet.specs.declared.Refusal.TheVariants.{OutputLength, JoinedLimit}
 use Rattle.kernel.specs.Schedules.{schedule_of}
 use Rattle.kernel.specs.Calls.{rounds_call, scheduled_call}
 use Rattle.join.specs.Joined.{shifted_numbers, joined_list, joined}
 use Rattle.join.specs.Bytes.{joined_bytes}
-use Rattle.join.specs.Calls.{passed_with, is_above, join_answer, JoinCall, join_call, PackableJoining}
+use Rattle.join.specs.Calls.{passed_with, is_above, Joining, refused_both, join_answer, JoinCall, join_call, PackableJoining}
 use Rattle.sheet.specs.declared.Counts.{Counts}
-use Rattle.join.specs.declared.Joining.{Joining}
-use Rattle.join.specs.declared.Joining.TheVariants.{FirstRefused, SecondRefused, Refused, Done}
+use Rattle.join.specs.declared.NotJoined.TheVariants.{First, Second, Joined}
 use Rattle.join.proofs.Laws.Buffers.{memory_bytes-joined}
 use Rattle.join.proofs.Laws.Bytes.{joined_length, joined-read}
 use Rattle.join.proofs.Laws.Instants.{forms_joined}
@@ -102,13 +102,13 @@ module _ (s t buffer : List ℕ) where
         → RefusedBoth both OutputLength
 
   pub record JoinAnswered (now : JoinCall) : Type 0 where
-    pub first_refused : {why : Refusal} {place : ℕ} → now.answer ≡ FirstRefused why place
-        → (check_of s ≡ refused_at why place) × (now.joined ≡ buffer)
-    pub second_refused : {why : Refusal} {place : ℕ} → now.answer ≡ SecondRefused why place
-        → ((counts : Counts) × (check_of s ≡ passed_with counts)) × (check_of t ≡ refused_at why place) × (now.joined ≡ buffer)
-    pub refused : {why : Refusal} {place : ℕ} → now.answer ≡ Refused why place
-        → (place ≡ 0) × ((both : BothPass s t) × RefusedBoth both why) × (now.joined ≡ buffer)
-    pub done : now.answer ≡ Done
+    pub first_refused : {refused : Refused} → now.answer ≡ Err (First refused)
+        → (check_of s ≡ Err refused) × (now.joined ≡ buffer)
+    pub second_refused : {refused : Refused} → now.answer ≡ Err (Second refused)
+        → ((counts : Counts) × (check_of s ≡ passed_with counts)) × (check_of t ≡ Err refused) × (now.joined ≡ buffer)
+    pub refused : {refused : Refused} → now.answer ≡ Err (Joined refused)
+        → (refused.place ≡ 0) × ((both : BothPass s t) × RefusedBoth both refused.why) × (now.joined ≡ buffer)
+    pub done : now.answer ≡ Ok tt
         → (both : BothPass s t) × (length buffer + 3 ≡ length s + length t) × JoinedSheet s t now.joined both.first both.second
 
 -- That it is so.
@@ -201,21 +201,23 @@ module _ (s t buffer : List ℕ) where
   abbrev Answers : (answer : Joining) → (left : List ℕ) → Type 0
   Answers answer left = JoinAnswered s t buffer (record { answer = answer; joined = left })
 
-  first-refused : {why : Refusal} {place : ℕ} → sheet_of s ≡ refusal why place → Answers (FirstRefused why place) buffer
-  first-refused p =
+  first-refused : (refused : Refused) → sheet_of s ≡ refusal refused.why refused.place → Answers (Err (First refused)) buffer
+  first-refused refused p =
       record {
-        first_refused = λ e. (refused-checked s p ∙ cc, refl);
+        first_refused = λ {refused = other} e. let same : refused ≡ other = cc in (rw same at (refused-checked s p), refl);
         second_refused = λ e. never (cc);
         refused = λ e. never (cc);
         done = λ e. never (cc);
       }
 
   module _ (first : Sheet) (p : sheet_of s ≡ result first) where
-    second-refused : {why : Refusal} {place : ℕ} → sheet_of t ≡ refusal why place → Answers (SecondRefused why place) buffer
-    second-refused q =
+    second-refused : (refused : Refused) → sheet_of t ≡ refusal refused.why refused.place → Answers (Err (Second refused)) buffer
+    second-refused refused q =
         record {
           first_refused = λ e. never (cc);
-          second_refused = λ e. ((counts_of first, passed-checked s p), refused-checked t q ∙ cc, refl);
+          second_refused = λ {refused = other} e.
+              let same : refused ≡ other = cc in
+              ((counts_of first, passed-checked s p), rw same at (refused-checked t q), refl);
           refused = λ e. never (cc);
           done = λ e. never (cc);
         }
@@ -230,17 +232,22 @@ module _ (s t buffer : List ℕ) where
             passes_second = passed-checked t q;
           }
 
-      both-refused : (why : Refusal) → RefusedBoth s t buffer pass why → Answers (Refused why 0) buffer
+      both-refused : (why : Refusal) → RefusedBoth s t buffer pass why → Answers (refused_both why) buffer
       both-refused why because =
           record {
             first_refused = λ e. never (cc);
             second_refused = λ e. never (cc);
-            refused = λ e. (cc, (pass, subst (RefusedBoth s t buffer pass) (cc) because), refl);
+            refused = λ {refused = other} e.
+                let same : record { why = why; place = 0 } ≡ other = cc in (
+                  ap (λ (r : Refused). r.place) (sym same),
+                  (pass, subst (RefusedBoth s t buffer pass) (ap (λ (r : Refused). r.why) same) because),
+                  refl,
+                );
             done = λ e. never (cc);
           }
 
       both-joined : Limited (counts_of first) (counts_of second) (length (joined_bytes s t))
-          → length buffer ≡ length (joined_bytes s t) → Answers Done (joined_bytes s t)
+          → length buffer ≡ length (joined_bytes s t) → Answers (Ok tt) (joined_bytes s t)
       both-joined few sized =
           record {
             first_refused = λ e. never (cc);
@@ -268,8 +275,8 @@ module _ (s t buffer : List ℕ) where
   join-answered = go (sheet_of s) refl (sheet_of t) refl
     where
       go : (x : Outcome Sheet) → sheet_of s ≡ x → (y : Outcome Sheet) → sheet_of t ≡ y → JoinAnswered s t buffer (join_call s t buffer)
-      go (refusal why place) p y q = rw (refused-checked s p) (first-refused p)
-      go (result first) p (refusal why place) q = rw (passed-checked s p, refused-checked t q) (second-refused first p q)
+      go (refusal why place) p y q = rw (refused-checked s p) (first-refused (record { why = why; place = place }) p)
+      go (result first) p (refusal why place) q = rw (passed-checked s p, refused-checked t q) (second-refused first p (record { why = why; place = place }) q)
       go (result first) p (result second) q =
           behind_checks first p second q (is_above (counts_of first) (counts_of second) (length (joined_bytes s t))) refl
           (eqb (length buffer) (length (joined_bytes s t))) refl
@@ -279,7 +286,7 @@ module _ (s t buffer : List ℕ) where
   join_packable = go (join_call s t buffer).answer refl
     where
       go : (answer : Joining) → (join_call s t buffer).answer ≡ answer → PackableJoining answer
-      go (FirstRefused why place) e = omega (arith, (check_refusals s (join-answered.first_refused e).0).bounded)
-      go (SecondRefused why place) e = omega (arith, (check_refusals t (join-answered.second_refused e).1).bounded)
-      go (Refused why place) e = omega (arith, (join-answered.refused e).0)
-      go Done e = tt
+      go (Err (First refused)) e = omega (arith, (check_refusals s (join-answered.first_refused e).0).bounded)
+      go (Err (Second refused)) e = omega (arith, (check_refusals t (join-answered.second_refused e).1).bounded)
+      go (Err (Joined refused)) e = omega (arith, (join-answered.refused e).0)
+      go (Ok done) e = tt

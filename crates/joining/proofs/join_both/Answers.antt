@@ -12,11 +12,12 @@ is_above-requires c = (few _ c.requires.0, few _ c.requires.1)
 
 pub returns-then-is_above : goal.returns-then-is_above
 returns-then-is_above c =
-    above-limits _ _ c.requires.0 c.requires.1 _ (sym c.is_above.ensures ∙ c.if-is_above.true)
+    rw c.at.ensures (above-limits _ _ c.requires.0 c.requires.1 _ (sym c.is_above.ensures ∙ c.if-is_above.true))
 
 pub returns-then-joined-length : goal.returns-then-joined-length
 returns-then-joined-length c =
-    other_length_lem _ _ c.requires.0 c.requires.1 _ (sym c.is_above.ensures ∙ c.if-is_above.false) c.if-joined-length.true
+    rw c.at-then-joined-length.ensures
+    (other_length_lem _ _ c.requires.0 c.requires.1 _ (sym c.is_above.ensures ∙ c.if-is_above.false) c.if-joined-length.true)
 
 pub write-requires : goal.write-requires
 write-requires c =

@@ -1,11 +1,12 @@
 -- A tick with its marks and numbers in 8 bytes of state: due marks, restart marks, stored marks and the number of the sheet served last; behind them
 -- the sheet that a tick serves.
-use Rattle.std.specs.Prelude.{ℕ, ◌≡◌, ◌&&◌, cond, List, eqb, ltb, length, get_or, set}
+use Rattle.std.specs.Prelude.{ℕ, ◌≡◌, ◌&&◌, cond, List, Result, Ok, Err, eqb, ltb, length, get_or, set}
+use Rattle.sheet.specs.declared.Refused.{Refused}
 use Rattle.board.specs.Serving.{every_cell}
 use Rattle.board.specs.Ticks.{TickCall, tick_call, packed_tick}
 use Rattle.board.specs.declared.Standing.{Standing}
 use Rattle.board.specs.declared.Ticked.{Ticked}
-use Rattle.board.specs.declared.Ticked.TheVariants.{Refused, NoneDue, Served, LeftUnknown}
+use Rattle.board.specs.declared.Ticked.TheVariants.{NoneDue, Served, LeftUnknown}
 use Rattle.tick.specs.Ticking.{turn_of}
 
 -- what the call leaves
@@ -15,14 +16,14 @@ pub record ProbeCall : Type 0 where
   pub output : List ℕ
   pub state : List ℕ
 
-abbrev pub served_in : Ticked → List ℕ → List ℕ
-served_in (Refused why place) state = state
-served_in NoneDue state = state
-served_in (Served sheet rounds) state = set state 4 sheet
-served_in (LeftUnknown sheet wire) state = set state 4 sheet
+abbrev pub served_in : Result Ticked Refused → List ℕ → List ℕ
+served_in (Err refused) state = state
+served_in (Ok NoneDue) state = state
+served_in (Ok (Served sheet rounds)) state = set state 4 sheet
+served_in (Ok (LeftUnknown sheet wire)) state = set state 4 sheet
 
 -- the state after a tick that answered and handed back these
-abbrev pub state_after : (state : List ℕ) → Ticked → Standing → List ℕ
+abbrev pub state_after : (state : List ℕ) → Result Ticked Refused → Standing → List ℕ
 state_after state answer standing = served_in answer (set (set state 2 standing.stored) 3 standing.number)
 
 -- the tick that the state asks for

@@ -10,6 +10,7 @@ ghost use Rattle.join.specs.Calls.{join_call, packed_joining};
 ghost use Rattle.probe.specs.Ticks.{probe_tick, Probes, state_after};
 
 use board::{Standing, Ticked};
+use sheet::Refused;
 
 // The maker of a schedule: the greatest depth, or a refusal; the list gets the schedule.
 #[unsafe(no_mangle)]
@@ -54,19 +55,25 @@ pub extern "C" fn probe_tick(
     if 65536 <= board.len() {
         return 0;
     }
-    let standing = Standing {
+    let mut standing = Standing {
         stored: state[2],
         number: state[3],
     };
-    let ticked = tick::tick(board, memory, input, output, state[0], state[1], standing);
-    let answer = ticked.answer;
-    let handed = ticked.standing;
-    note(state, answer, handed);
+    let answer = tick::tick(
+        board,
+        memory,
+        input,
+        output,
+        state[0],
+        state[1],
+        &mut standing,
+    );
+    note(state, answer, standing);
     tick::packed(answer)
 }
 
 // Notes in a state what a tick answered and handed back.
-fn note(state: &mut [u8], answer: Ticked, standing: Standing)
+fn note(state: &mut [u8], answer: Result<Ticked, Refused>, standing: Standing)
     requires packable_tick { PackableTick answer }
     requires state_len { length state.old ≡ 8 }
     ensures { state.new ≡ state_after state.old answer standing }
@@ -74,12 +81,11 @@ fn note(state: &mut [u8], answer: Ticked, standing: Standing)
     state[2] = standing.stored;
     state[3] = standing.number;
     match answer {
-        Ticked::Refused { why: _, place: _ } => {}
-        Ticked::NoneDue => {}
-        Ticked::Served { sheet, rounds: _ } => {
+        Err(_) | Ok(Ticked::NoneDue) => {}
+        Ok(Ticked::Served { sheet, rounds: _ }) => {
             state[4] = sheet as u8;
         }
-        Ticked::LeftUnknown { sheet, wire: _ } => {
+        Ok(Ticked::LeftUnknown { sheet, wire: _ }) => {
             state[4] = sheet as u8;
         }
     }

@@ -3,6 +3,7 @@ use Prim.Native.Nat.{ℕ, ◌<◌, ◌≤◌}
 use mathlib.Core.Path.{◌≡◌, refl, ap, ap₂, ◌∙◌}
 use mathlib.Core.Bool.{and-false}
 use mathlib.Core.List.{List}
+use Rattle.std.specs.Prelude.{Result}
 use native.Mathlib.Omega.{arith}
 use lib.ListN.{length}
 use borrow.Author.Tests.{eq-eqb, ne_eqb, lt-ltb, le-ltb}
@@ -11,7 +12,9 @@ use Rattle.board.specs.Ticks.{packed_tick, PackableTick}
 use Rattle.board.proofs.Laws.Refusals.{tick_packable}
 use Rattle.board.proofs.Laws.Serving.{every-cell}
 use Rattle.tick.specs.Ticking.{Leaves}
-use Rattle.tick.specs.declared.Answered.{Answered}
+use Rattle.board.specs.declared.Standing.{Standing}
+use Rattle.board.specs.declared.Ticked.{Ticked}
+use Rattle.sheet.specs.declared.Refused.{Refused}
 use Rattle.probe.specs.Ticks.{state_after, tick_in, probe_tick, Probes}
 use Rattle.probe.proofs.probe_tick.Goals as goal
 
@@ -25,15 +28,16 @@ module _ (board memory input output state : List ℕ) where
   unfolding probe_tick
   too_long long = rw (le-ltb (length board) 65536 long, and-false) (record { answers = refl; stores = refl; writes = refl; notes = refl })
 
-  module _ {r : Answered} {stored written : List ℕ} (leaves : Leaves (tick_in board memory input output state) r stored written)
+  module _ {ticked : Result Ticked Refused} {standing : Standing} {stored written : List ℕ}
+      (leaves : Leaves (tick_in board memory input output state) ticked standing stored written)
       (short : length board < 65536) where
-    packable : PackableTick r.answer
+    packable : PackableTick ticked
     packable = rw leaves.answers (tick_packable every_cell every-cell board _ _ short)
 
-    ticked : length state ≡ 8 → {answer : ℕ} {noted : List ℕ} → answer ≡ packed_tick r.answer
-        → noted ≡ state_after state r.answer r.standing → Probes (probe_tick board memory input output state) answer stored written noted
+    probed : length state ≡ 8 → {answer : ℕ} {noted : List ℕ} → answer ≡ packed_tick ticked
+        → noted ≡ state_after state ticked standing → Probes (probe_tick board memory input output state) answer stored written noted
     unfolding probe_tick
-    ticked sized packs notes =
+    probed sized packs notes =
         rw (eq-eqb (length state) 8 sized, lt-ltb (length board) 65536 short)
         (record {
           answers = packs ∙ ap packed_tick leaves.answers;
@@ -51,14 +55,14 @@ returns-then-board-ge65536 c = too_long _ _ _ _ _ c.if-board-ge65536.true
 pub note-requires : goal.note-requires
 note-requires c = let a = c.args in
     record {
-      packable_tick = packable _ _ _ _ a.state.now c.tick-ticked.ensures (omega (arith, c.if-board-ge65536.false));
+      packable_tick = packable _ _ _ _ a.state.now c.tick-answer.ensures (omega (arith, c.if-board-ge65536.false));
       state_len = c.if-state-ne8.false;
     }
 
 pub packed-requires : goal.packed-requires
 packed-requires c =
-    let a = c.args in packable _ _ _ _ a.state.now c.tick-ticked.ensures (omega (arith, c.if-board-ge65536.false))
+    let a = c.args in packable _ _ _ _ a.state.now c.tick-answer.ensures (omega (arith, c.if-board-ge65536.false))
 
 pub returns : goal.returns
 returns c =
-    ticked _ _ _ _ _ c.tick-ticked.ensures (omega (arith, c.if-board-ge65536.false)) c.if-state-ne8.false c.packed.ensures c.note.ensures
+    probed _ _ _ _ _ c.tick-answer.ensures (omega (arith, c.if-board-ge65536.false)) c.if-state-ne8.false c.packed.ensures c.note.ensures

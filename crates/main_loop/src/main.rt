@@ -5,6 +5,7 @@
 ghost use Rattle.std.specs.Prelude.{◌≡◌, ◌≤◌, ◌<◌, length};
 
 use board::{Standing, Ticked};
+use sheet::Refused;
 use std::io;
 use text::{put_bytes, Text};
 
@@ -27,7 +28,7 @@ const TICKS: [[u8; 8]; 14] = [
     [248, 0, 0, 0, 1, 0, 0, 0], // no sheet has these marks
 ];
 
-// Starts a new board, and makes its ticks, each with the stored marks and the number that the one before handed back.
+// Starts a new board, and makes its ticks, each with the stored marks and the number that the one before left.
 // A write that fails ends it with that error.
 fn main(rt: HostRuntime) -> io::Result<()> {
     let mut board = [0u8; 175];
@@ -39,8 +40,16 @@ fn main(rt: HostRuntime) -> io::Result<()> {
         stored: 0,
         number: 255,
     };
-    for row in 0..14 {
-        standing = make_tick(&rt, row, &board, &mut memory, &mut output, standing)?;
+    for (row, given) in TICKS.iter().enumerate() {
+        make_tick(
+            &rt,
+            row,
+            given,
+            &board,
+            &mut memory,
+            &mut output,
+            &mut standing,
+        )?;
     }
     Ok(())
 }
@@ -104,29 +113,24 @@ fn start(board: &[u8; 175], memory: &mut [u8])
     let _ = sheet_start::start(&whole[131..175], &mut memory[35..40]);
 }
 
-// Makes the tick of a row, prints its line, and hands back what the next tick is given.
+// Makes the tick of a row, and prints its line.
 fn make_tick(
     rt: &impl Print,
     row: usize,
+    given: &[u8; 8],
     board: &[u8; 175],
     memory: &mut [u8; 40],
     output: &mut [u8; 32],
-    standing: Standing,
-) -> io::Result<Standing>
-    requires { row < 14 }
-{
-    let given = TICKS[row];
-    let input = input_row(&given);
-    let ticked = tick::tick(board, memory, &input, output, given[0], given[1], standing);
-    let answer = ticked.answer;
-    let handed = ticked.standing;
+    standing: &mut Standing,
+) -> io::Result<()> {
+    let input = input_row(given);
+    let answer = tick::tick(board, memory, &input, output, given[0], given[1], standing);
     print_number(rt, b"tick ", row)?;
     print_marks(rt, b" due ", given[0])?;
     print_marks(rt, b" restart ", given[1])?;
     print_answer(rt, answer, output)?;
-    print_marks(rt, b", waiting ", handed.stored)?;
-    rt.write_all(b"\n")?;
-    Ok(handed)
+    print_marks(rt, b", waiting ", standing.stored)?;
+    rt.write_all(b"\n")
 }
 
 // The input row of a tick: four bytes for each of the six inputs.
@@ -139,17 +143,17 @@ fn input_row(given: &[u8; 8]) -> [u8; 24] {
 }
 
 // Prints what a tick answers.
-fn print_answer(rt: &impl Print, answer: Ticked, output: &[u8]) -> io::Result<()>
+fn print_answer(rt: &impl Print, answer: Result<Ticked, Refused>, output: &[u8]) -> io::Result<()>
     requires { length output.now ≡ 32 }
 {
     match answer {
-        Ticked::Refused { why, place } => {
-            print_number(rt, b": refused ", why.number() as usize)?;
-            print_number(rt, b" at ", place)
+        Err(refused) => {
+            print_number(rt, b": refused ", refused.why.number() as usize)?;
+            print_number(rt, b" at ", refused.place)
         }
-        Ticked::NoneDue => rt.write_all(b": none"),
-        Ticked::Served { sheet, rounds } => print_served(rt, sheet, rounds, output),
-        Ticked::LeftUnknown { sheet, wire } => {
+        Ok(Ticked::NoneDue) => rt.write_all(b": none"),
+        Ok(Ticked::Served { sheet, rounds }) => print_served(rt, sheet, rounds, output),
+        Ok(Ticked::LeftUnknown { sheet, wire }) => {
             print_number(rt, b": refused 20 in sheet ", sheet)?;
             print_number(rt, b" at wire ", wire)
         }

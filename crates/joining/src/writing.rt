@@ -61,12 +61,10 @@ fn put_raised(joined: &mut [u8], at: usize, bytes: &[u8], raise: u8) -> usize
     ensures value { result ≡ at + length bytes.now }
     ensures puts { Puts joined.old at (shifted_numbers raise bytes.now) joined.new }
 {
-    let mut i = 0;
-    while i < bytes.len() {
-        joined[at + i] = raise + bytes[i];
-        i += 1;
+    for (i, &byte) in bytes.iter().enumerate() {
+        joined[at + i] = raise + byte;
     }
-    at + i
+    at + bytes.len()
 }
 
 // Puts the bytes of expressions at a place: wire numbers are raised by `wires`, input numbers by `inputs`.
@@ -76,9 +74,7 @@ fn put_shifted(joined: &mut [u8], at: usize, bytes: &[u8], wires: u8, inputs: u8
 {
     let mut left = 0;
     let mut raise = 0u8;
-    let mut i = 0;
-    while i < bytes.len() {
-        let byte = bytes[i];
+    for (i, &byte) in bytes.iter().enumerate() {
         if left == 0 {
             joined[at + i] = byte;
             left = kinds::body(byte);
@@ -87,7 +83,6 @@ fn put_shifted(joined: &mut [u8], at: usize, bytes: &[u8], wires: u8, inputs: u8
             joined[at + i] = raise + byte;
             left -= 1;
         }
-        i += 1;
     }
 }
 

@@ -1,12 +1,7 @@
 -- `put_raised` meets its contract. The loop's invariant: the bytes passed are put, each of them raised.
-use Prim.Native.Nat.{◌-◌, ◌≤◌}
-use lib.ListN.{length}
 use Rattle.join.specs.Joined.{shifted_numbers}
 use Rattle.joining.proofs.Putting.{PutSoFar}
 use Rattle.joining.proofs.writing.put_raised.Given as goal
 
 abbrev pub invariant-loop-i : goal.invariant-loop-i
-invariant-loop-i l = (l.i ≤ length l.bytes) × PutSoFar l.initial.joined l.at (shifted_numbers l.raise l.bytes) l.i l.joined
-
-abbrev pub decreases-loop-i : goal.decreases-loop-i
-decreases-loop-i l = length l.bytes - l.i
+invariant-loop-i l = PutSoFar l.initial.joined l.at (shifted_numbers l.raise l.bytes) l.i l.joined

@@ -1,11 +1,6 @@
 -- `put_shifted` meets its contract. The loop's invariant: the bytes passed are put, shifted, and the others are still to be.
-use Prim.Native.Nat.{◌-◌}
-use lib.ListN.{length}
 use Rattle.joining.proofs.Shifting.{Turn}
 use Rattle.joining.proofs.writing.put_shifted.Given as goal
 
 abbrev pub invariant-loop-i : goal.invariant-loop-i
 invariant-loop-i l = Turn l.initial.joined l.at l.bytes l.wires l.inputs l.left l.raise l.i l.joined
-
-abbrev pub decreases-loop-i : goal.decreases-loop-i
-decreases-loop-i l = length l.bytes - l.i

@@ -125,12 +125,9 @@ fn make_tick(
 ) -> io::Result<()> {
     let input = input_row(given);
     let answer = tick::tick(board, memory, &input, output, given[0], given[1], standing);
-    print_number(rt, b"tick ", row)?;
-    print_marks(rt, b" due ", given[0])?;
-    print_marks(rt, b" restart ", given[1])?;
+    print!(rt; "tick {row} due {} restart {}", given[0], given[1])?;
     print_answer(rt, answer, output)?;
-    print_marks(rt, b", waiting ", standing.stored)?;
-    rt.write_all(b"\n")
+    println!(rt; ", waiting {}", standing.stored)
 }
 
 // The input row of a tick: four bytes for each of the six inputs.
@@ -147,15 +144,11 @@ fn print_answer(rt: &impl Print, answer: Result<Ticked, Refused>, output: &[u8])
     requires { length output.now ≡ 32 }
 {
     match answer {
-        Err(refused) => {
-            print_number(rt, b": refused ", refused.why.number() as usize)?;
-            print_number(rt, b" at ", refused.place)
-        }
-        Ok(Ticked::NoneDue) => rt.write_all(b": none"),
+        Err(refused) => print!(rt; ": refused {} at {}", refused.why.number(), refused.place),
+        Ok(Ticked::NoneDue) => print!(rt; ": none"),
         Ok(Ticked::Served { sheet, rounds }) => print_served(rt, sheet, rounds, output),
         Ok(Ticked::LeftUnknown { sheet, wire }) => {
-            print_number(rt, b": refused 20 in sheet ", sheet)?;
-            print_number(rt, b" at wire ", wire)
+            print!(rt; ": refused 20 in sheet {sheet} at wire {wire}")
         }
     }
 }
@@ -165,32 +158,20 @@ fn print_served(rt: &impl Print, sheet: usize, rounds: usize, output: &[u8]) -> 
     requires { length output.now ≡ 32 }
 {
     match sheet {
-        0 => print_sheet(rt, b": tariff in ", rounds, &output[0..12]),
-        1 => print_sheet(rt, b": relay in ", rounds, &output[12..28]),
-        _ => print_sheet(rt, b": display in ", rounds, &output[28..32]),
+        0 => print_sheet(rt, "tariff", rounds, &output[0..12]),
+        1 => print_sheet(rt, "relay", rounds, &output[12..28]),
+        _ => print_sheet(rt, "display", rounds, &output[28..32]),
     }
 }
 
 // Prints a sheet's name, rounds and outputs.
-fn print_sheet(rt: &impl Print, name: &[u8], rounds: usize, output: &[u8]) -> io::Result<()>
+fn print_sheet(rt: &impl Print, name: &str, rounds: usize, output: &[u8]) -> io::Result<()>
     requires { length output.now ≤ 16 }
 {
     let mut bytes = [0u8; 48];
     let mut text = Text::new(&mut bytes);
     text.put_numbers(output);
     let size = text.size;
-    print_number(rt, name, rounds)?;
-    rt.write_all(b" rounds, outputs")?;
+    print!(rt; ": {name} in {rounds} rounds, outputs")?;
     rt.write_all(&bytes[..size])
-}
-
-// Prints words and marks, as one number.
-fn print_marks(rt: &impl Print, words: &[u8], marks: u8) -> io::Result<()> {
-    print_number(rt, words, marks as usize)
-}
-
-// Prints words and a number.
-fn print_number(rt: &impl Print, words: &[u8], number: usize) -> io::Result<()> {
-    rt.write_all(words)?;
-    rt.print(number)
 }

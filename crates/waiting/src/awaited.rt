@@ -1,12 +1,12 @@
 // The unknown wires that an expression waits for, over the sheet's bytes: those that its operands wait for, as far as they count.
-// Rests on `count` for these, on `leaf` of `leaves`, on `wires` for sets, and on `sheet_walk` for the walk past the others.
+// Rests on `count` for these, on `wires` for sets, on `sheet` for the table of kinds, and on `sheet_walk` for the walk past the others.
 ghost use Rattle.std.specs.Prelude.{◌≡◌, ℕ, ◌<◌};
 ghost use Rattle.expression.specs.Places.{Placed, kind_at};
 ghost use Rattle.waiting.specs.Waiting.{Behind, AwaitsAt};
 
 use crate::count;
 use expression::Basis;
-use leaves::leaf;
+use sheet::kinds::Kind;
 use sheet_walk::{Place, skip};
 use wires::Wires;
 
@@ -35,20 +35,19 @@ fn awaited_leaf(basis: &Basis, level: usize, here: Place, fresh: bool) -> Waited
     requires at_bound { kind_at basis.now here < 4 }
     ensures { AwaitsAt basis.now level here fresh result }
 {
-    let kind = basis.sheet[here.at];
+    let kind = Kind::of(basis.sheet[here.at]);
     let end = Place {
-        at: here.at + 1 + leaf::body(kind),
-        cell: here.cell,
+        at: here.at + 1 + kind.body(),
+        ..here
     };
     let none = Wires::none();
-    if kind == 2 {
-        let itself = none.with(basis.sheet[here.at + 1] as usize);
-        return Waited {
-            wires: itself.minus(basis.known),
-            end,
-        };
-    }
-    Waited { wires: none, end }
+    let wires = match kind {
+        Kind::Wire => none
+            .with(basis.sheet[here.at + 1] as usize)
+            .minus(basis.known),
+        _ => none,
+    };
+    Waited { wires, end }
 }
 
 // The unknown wires that the expression which stands here waits for.
@@ -56,7 +55,7 @@ pub fn awaited(basis: &Basis, level: usize, here: Place, fresh: bool) -> Waited
     requires { Placed basis.now level here }
     ensures { AwaitsAt basis.now level here fresh result }
 {
-    if basis.sheet[here.at] < 4 {
+    if Kind::of(basis.sheet[here.at]).is_leaf() {
         return awaited_leaf(basis, level, here, fresh);
     }
     let counted = count::count(basis, level, here, fresh);

@@ -6,7 +6,7 @@ ghost use Rattle.waiting.specs.Waiting.{CountsAt};
 
 use expression::{Basis, value};
 use leaves::cells;
-use sheet::kinds;
+use sheet::kinds::Kind;
 use sheet_walk::{Place, skip, skip_if};
 
 // The operands from which an unknown value is worked out: so many, one behind the other from here on, whether they are fresh, and how many
@@ -27,7 +27,7 @@ fn count_present(basis: &Basis, level: usize, here: Place, fresh: bool) -> Count
 {
     let first = Place {
         at: here.at + 1,
-        cell: here.cell,
+        ..here
     };
     let Some(condition) = value::value_expression(basis, level - 1, first, fresh) else {
         return Counted {
@@ -61,7 +61,7 @@ fn count_reset(basis: &Basis, level: usize, here: Place, fresh: bool) -> Counted
 {
     let first = Place {
         at: here.at + 1,
-        cell: here.cell,
+        ..here
     };
     let Some(condition) = value::value_expression(basis, level - 1, first, fresh) else {
         return Counted {
@@ -144,20 +144,21 @@ pub fn count(basis: &Basis, level: usize, here: Place, fresh: bool) -> Counted
     requires bound { 4 ≤ kind_at basis.now here }
     ensures { CountsAt basis.now level here fresh result }
 {
-    match basis.sheet[here.at] {
-        13 => count_present(basis, level, here, fresh),
-        14 => count_reset(basis, level, here, fresh),
-        17 => count_fby(basis, level, here, fresh),
-        kinds::MACHINE => count_machine(basis, level, here, fresh),
-        kind => {
-            let operands = kinds::read_operands(kind);
+    let kind = Kind::of(basis.sheet[here.at]);
+    match kind {
+        Kind::Present => count_present(basis, level, here, fresh),
+        Kind::Reset => count_reset(basis, level, here, fresh),
+        Kind::Fby => count_fby(basis, level, here, fresh),
+        Kind::Machine => count_machine(basis, level, here, fresh),
+        _ => {
+            let operands = kind.read_operands();
             Counted {
                 here: Place {
-                    at: here.at + 1 + kinds::body(kind),
-                    cell: here.cell + kinds::cells(kind),
+                    at: here.at + 1 + kind.body(),
+                    cell: here.cell + kind.cells(),
                 },
                 operands,
-                rest: kinds::operands(kind) - operands,
+                rest: kind.operands() - operands,
                 fresh,
             }
         }

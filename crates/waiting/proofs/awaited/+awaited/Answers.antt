@@ -42,3 +42,6 @@ pub returns : goal.returns
 returns t c =
     λ asked p. ended p c.args.fresh (c.loop-passed.invariant asked p) (omega (arith, c.loop-passed-test.false)) c.skip_all.ensures
     refl
+
+pub of-requires : goal.of-requires
+of-requires t c = (opened c.requires.1).good.kind

@@ -56,6 +56,7 @@ impl<'a> Text<'a> {
     }
 
     // Puts a number's digits: those of its tenth part, then the last one.
+    // By hand and not by `write!`, whose contract allows an Err at any time: here (`Puts`) and in `lines` (`Holds`) nothing fails.
     pub fn put_digits(&mut self, n: u32)
         requires { self.old.size + 10 ≤ length self.old.buffer.now }
         ensures same_reference { self.new.buffer.ghost_name ≡ self.old.buffer.ghost_name }
@@ -100,6 +101,7 @@ impl<'a> Text<'a> {
     }
 
     // Puts a space and the signed number for each four bytes of an output row.
+    // The row is taken apart as its definition (`numbers_of`) does it, four bytes and the rest.
     pub fn put_numbers(&mut self, output: &[u8])
         requires { self.old.size + 3 * length output.now ≤ length self.old.buffer.now }
         ensures same_reference { self.new.buffer.ghost_name ≡ self.old.buffer.ghost_name }

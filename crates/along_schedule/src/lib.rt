@@ -31,7 +31,7 @@ pub fn instant(
         firsts: &map.firsts,
     };
     pass::pass(&instant, schedule, &mut words);
-    next_memory::store(sheet, memory, types, &map.places, &map.firsts, &words);
+    next_memory::store(sheet, memory, types, &map, &words);
     rounds::write_row(parts.outputs, &words, output);
     Ok(())
 }

@@ -31,14 +31,7 @@ pub fn instant(
     let mut map = Map::empty();
     let mut words = [0u32; 144];
     let shown = show(sheet, memory, input, output, &mut map, &mut words)?;
-    next_memory::store(
-        sheet,
-        memory,
-        shown.types,
-        &map.places,
-        &map.firsts,
-        &words,
-    );
+    next_memory::store(sheet, memory, shown.types, &map, &words);
     Ok(shown.rounds)
 }
 

@@ -12,32 +12,25 @@ ghost use Rattle.kernel.specs.declared.Value.TheVariants.{Known};
 ghost use Rattle.rounds.specs.Settled.{Settled, stored_of};
 
 use sheet::{Cell, data, memory};
-use sheet_expressions::map;
+use sheet_expressions::map::{self, Map};
 use sheet_walk::Place;
 use storing::advance::{self, Fixed};
 
 // Stores the cells of all wires under the finished values, which the words hold. These are just what the expressions give, so that a kept wire's
 // word is stored as it is, and nothing is worked out again where an expression owns no cell.
-pub fn store(
-    sheet: &[u8],
-    memory: &mut [u8],
-    types: &[u8],
-    places: &[u16; 64],
-    firsts: &[u8; 64],
-    words: &[u32; 144],
-)
-    requires { Settled sheet.now memory.old types.now places.now firsts.now words.now }
-    ensures { (f : Settled sheet.now memory.old types.now
-        places.now firsts.now words.now) → memory.new ≡ stored_of f }
+pub fn store(sheet: &[u8], memory: &mut [u8], types: &[u8], map: &Map, words: &[u32; 144])
+    requires { Settled sheet.now memory.old types.now map.now.places map.now.firsts words.now }
+    ensures { (f : Settled sheet.now memory.old types.now map.now.places map.now.firsts words.now)
+        → memory.new ≡ stored_of f }
 {
     let fixed = Fixed { sheet, words };
     for w in 0..types.len() {
         let here = Place {
-            at: map::place(places[w]),
-            cell: numbers::length_of(firsts[w]),
+            at: map::place(map.places[w]),
+            cell: numbers::length_of(map.firsts[w]),
         };
         store_own(memory, types[w], words[w], here.cell);
-        if may_own(types, firsts, w, here.cell) {
+        if may_own(types, &map.firsts, w, here.cell) {
             advance::advance_expression(&fixed, memory, 16, data::plain(types[w]), here, false);
         }
     }

@@ -9,4 +9,4 @@ use Rattle.next_memory.proofs.store.Given as goal
 abbrev pub invariant-loop-w : goal.invariant-loop-w
 invariant-loop-w l =
     (length l.types ≤ 64) × (length l.memory ≡ length l.initial.memory)
-    × ((f : Settled l.sheet l.initial.memory l.types l.places l.firsts l.words) → Stored f l.w l.memory)
+    × ((f : Settled l.sheet l.initial.memory l.types l.map.places l.map.firsts l.words) → Stored f l.w l.memory)

@@ -14,6 +14,7 @@ use Rattle.sheet.specs.Sheets.{Sheet, sheet_forms, before, read_wires}
 use Rattle.sheet.specs.Laws.Headers.{SheetRead, sheet-view, section_good, section-length}
 use Rattle.sheet.proofs.Laws.Typing.{passed_check}
 use Rattle.sheet.proofs.Laws.Memory.{memory_view}
+use Rattle.sheet_expressions.specs.declared.map.Map.{Map}
 use Rattle.sheet_expressions.specs.Map.{StartsAt, EachHoldsJust, Sited, Mapped, wires_of, run_of}
 use Rattle.kernel.specs.Instants.{reads_at}
 use Rattle.kernel.proofs.Laws.Reads.{reads-of-tree}
@@ -216,10 +217,10 @@ module _ (s memory input output places firsts reads : List ℕ) where
       granted-by = record { granted = granted; stand = record { types_from = refl; outputs_from = refl } }
 
 -- Once 1 to 11 are passed and the map is drawn: what the tests of the buffers, by the counts, refuse or grant.
-module _ {s : List ℕ} {i w o k : ℕ} (p : CheckPassed s i w o k) {places firsts reads forms : List ℕ}
-    (mapped : (sheet : Sheet) (n k : ℕ) (v : SheetRead s sheet n k) → Mapped (wires_of v) places firsts reads forms)
+module _ {s : List ℕ} {i w o k : ℕ} (p : CheckPassed s i w o k) {drawn : Map}
+    (mapped : (sheet : Sheet) (n k : ℕ) (v : SheetRead s sheet n k) → Mapped (wires_of v) drawn)
     (memory input output : List ℕ) {tested : Tested}
-    (tests : (fs : List CellForm) → Formed fs forms k
+    (tests : (fs : List CellForm) → Formed fs drawn.cells k
     → tested ≡ buffers_tested fs (map type_of_byte (take (1 + i - 1) (drop 1 s))) o memory input output) where
   own-tested : tested ≡ buffers s memory input output p.outcome
   own-tested =
@@ -231,7 +232,7 @@ module _ {s : List ℕ} {i w o k : ℕ} (p : CheckPassed s i w o k) {places firs
 
   module _ (small : Bytes memory) {u : Unit {0}} (h : tested ≡ Ok u) where
     -- the types of the wires and the outputs are there to be read, and so are the cells of the wires that are kept
-    pub tested-kept : (first_at s i w o ≤ length s) × KeptCells (types_at s i w o) firsts memory × (length (types_at s i w o) ≤ 64)
+    pub tested-kept : (first_at s i w o ≤ length s) × KeptCells (types_at s i w o) drawn.firsts memory × (length (types_at s i w o) ≤ 64)
         × (length input ≤ 64)
     tested-kept =
         let (given, passes, is) = buffers_passed _ _ _ _ p.outcome (sym own-tested ∙ h) in
@@ -239,8 +240,8 @@ module _ {s : List ℕ} {i w o k : ℕ} (p : CheckPassed s i w o k) {places firs
         at (grants-kept _ _ _ _ _ _ _ given passes (λ sheet n k v. (mapped sheet n k v).sites) small) in
         (within, kept, few, input-length _ _ _ _ _ passes)
 
-    pub tested-granted : {words : List ℕ} → InputsPut input words → LastsPut (types_at s i w o) firsts memory words
-        → length words ≡ word_count → GrantedBy s memory input output places firsts reads words (types_at s i w o) (outputs_at s i w o)
+    pub tested-granted : {words : List ℕ} → InputsPut input words → LastsPut (types_at s i w o) drawn.firsts memory words
+        → length words ≡ word_count → GrantedBy s memory input output drawn.places drawn.firsts drawn.reads words (types_at s i w o) (outputs_at s i w o)
     tested-granted put lasts room =
         let (given, passes, is) = buffers_passed _ _ _ _ p.outcome (sym own-tested ∙ h) in
         rw (is, p.inputs_are, p.wires-are, p.outputs-are)

@@ -32,17 +32,12 @@ pub fn given_of<'a>(
         map.new.places map.new.firsts map.new.reads words.new result }
 {
     let counts = sheet_check::check_map(sheet, map)?;
-    let types = &sheet[1..1 + counts.inputs];
-    buffers::check_buffers(
-        &map.cells,
-        counts.cells,
-        types,
-        counts.outputs,
-        memory,
-        input,
-        output,
-    )?;
-    let parts = parts_of(sheet, counts.inputs, counts.wires, counts.outputs);
+    let inputs = counts.inputs;
+    let outputs = counts.outputs;
+    let cells = counts.cells;
+    let types = &sheet[1..1 + inputs];
+    buffers::check_buffers(&map.cells, cells, types, outputs, memory, input, output)?;
+    let parts = parts_of(sheet, inputs, counts.wires, outputs);
     put_fixed(parts.types, &map.firsts, memory, input, words);
     Ok(parts)
 }

@@ -47,8 +47,8 @@ pub fn preview(
 {
     let mut map = Map::empty();
     let mut words = [0u32; 144];
-    let shown = show(sheet, memory, input, output, &mut map, &mut words)?;
-    Ok(shown.rounds)
+    let rounds = show(sheet, memory, input, output, &mut map, &mut words)?.rounds;
+    Ok(rounds)
 }
 
 // All of an instant in rounds but the storing: the checks 1 to 16, the finished values, and the output row, or 20 at the wire that really

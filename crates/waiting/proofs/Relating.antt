@@ -1,17 +1,14 @@
--- What a wire of the map waits for, and the sets of all wires one after the other.
-use Prim.Native.Nat.{ℕ, ◌+◌, ◌<◌}
+-- What a wire of the map waits for, and the lowest loop of all of them.
+use Prim.Native.Nat.{ℕ, ◌<◌}
 use mathlib.Core.Path.{◌≡◌, sym, ap, ◌∙◌}
-use mathlib.Core.Bool.{Bool, true, false, ◌&&◌}
+use mathlib.Core.Bool.{true, false, ◌&&◌}
 use mathlib.Core.List.{List}
-use native.Mathlib.Omega.{arith}
-use lib.ListN.{length, get_or, set}
-use lib.Seq.{get_or-set_same, get_or-set_other}
-use borrow.Author.Count.{below_more}
+use lib.ListN.{length, get_or}
 use Rattle.wires.specs.Sets.{member}
 use Rattle.sheet.specs.Lists.{among}
 use Rattle.sheet.specs.Data.{plain_byte}
 use Rattle.sheet.specs.Sheets.{cells_before}
-use Rattle.closure.specs.Closures.{lowest_loop, Rows}
+use Rattle.closure.specs.Closures.{lowest_loop}
 use Rattle.kernel.specs.Values.{is_unknown}
 use Rattle.kernel.specs.Order.{value_at}
 use Rattle.kernel.specs.Waits.{wires_awaited, waits_for, lowest_waiting}
@@ -52,16 +49,6 @@ module _ {s memory row types places firsts words : List ℕ} {bits : ℕ} (u : R
       awaits.same w
       ∙ (ap (λ k. is_unknown (value_at u.values w) && among w (wires_awaited now false at.tree k)) (ap (λ x. x.cell) is ∙ at.first)
       ∙ (ap (λ ws. is_unknown (value_at u.values w) && among w ws) (sym within) ∙ sym (rw (unknown, at.whole))))
-
--- the sets of the first k wires, and one more
-pub next_row : (test : ℕ → ℕ → Bool) {k : ℕ} {rows : List ℕ} (found : ℕ) → k < length rows → Rows test k rows
-    → ((w : ℕ) → member found w ≡ test k w) → Rows test (k + 1) (set rows k found)
-next_row test {k} {rows} found room so_far here =
-    record {
-      same = λ v w l. below_more (λ v. (w : ℕ) → member (get_or (set rows k found) v 0) w ≡ test v w) k
-          (λ v m w. ap (λ x. member x w) (get_or-set_other rows k v found 0 (λ (e : v ≡ k). omega arith)) ∙ so_far.same v w m)
-          (λ w. ap (λ x. member x w) (get_or-set_same rows k found 0 room) ∙ here w) v l w;
-    }
 
 -- the lowest loop of all sets is the place of 20
 pub lowest-place : {s memory row types places firsts words : List ℕ} {bits : ℕ} (u : RunningUnder s memory row types places firsts bits words)

@@ -209,12 +209,8 @@ module _ {sheet memory words : List ℕ} {bits level asked at cell : ℕ} (p : P
         go w true e = rw (e, stands w (eqb-true w _ e)) (sym (and-true (not (member bits w))))
         go w false e = rw e (sym (and-false (unknown_at w)))
 
--- The walk past several expressions: the next one, and those behind it.
+-- The walk past several expressions: those behind the next one.
 module _ {sheet : List ℕ} where
-  pub next-readable : {left a k n j : ℕ} → Behind sheet left a k n j → 0 < left → Readable sheet a k
-  next-readable passed l = absurd (omega arith)
-  next-readable (past q rest) l = q
-
   pub one-past : {left a k n j : ℕ} → Behind sheet left a k n j → 0 < left → {s : Place}
       → ((q : Readable sheet a k) → s ≡ record { at = q.next; cell = q.count }) → Behind sheet (left - 1) s.at s.cell n j
   one-past passed l walked = absurd (omega arith)

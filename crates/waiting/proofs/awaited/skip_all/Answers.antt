@@ -2,13 +2,8 @@
 use Prim.Native.Nat.{◌+◌, ◌-◌}
 use mathlib.Core.Path.{◌≡◌}
 use native.Mathlib.Omega.{arith}
-use Rattle.waiting.proofs.Walking.{next-readable, one-past, all_past}
+use Rattle.waiting.proofs.Walking.{one-past, all_past}
 use Rattle.waiting.proofs.awaited.skip_all.Goals as goal
-
-pub skip-end-requires : goal.skip-end-requires
-skip-end-requires c =
-    let (n, j, b) = c.requires in
-    next-readable (c.loop-passed.invariant n j b) (omega (arith, c.loop-passed-test.true))
 
 pub loop-passed-preserved : goal.loop-passed-preserved
 loop-passed-preserved c =

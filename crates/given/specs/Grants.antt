@@ -6,7 +6,7 @@ use Rattle.sheet.specs.Sheets.{Sheet}
 use Rattle.sheet.specs.declared.Refused.{Refused}
 use Rattle.sheet_expressions.specs.Map.{EachHoldsJust}
 use Rattle.kernel.specs.Instants.{wire_count, reads_at}
-use Rattle.kernel.specs.Calls.{Given, given_of}
+use Rattle.kernel.specs.Calls.{given_of}
 use Rattle.leaves.specs.Words.{word_count, fixed_words}
 use Rattle.rounds.specs.Running.{Running, RunningReads}
 use Rattle.rounds.specs.Outputs.{Below}

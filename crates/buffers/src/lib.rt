@@ -52,7 +52,8 @@ fn check_memory(forms: &[u16], cells: usize, memory: &[u8]) -> Result<(), Refuse
     Ok(())
 }
 
-// The lowest cell that is not valid; where all are, their count.
+// The lowest cell that is not valid; where all are, their count. One search for this and `first_wrong`, with the test as a closure, is no
+// plainer: its clause has to say of the closure what the two invariants say.
 fn first_invalid(forms: &[u16], cells: usize, memory: &[u8]) -> usize
     requires { (cells ≤ 512) × (cells ≤ length forms.now) × (length memory.now ≡ 5 * cells) }
     ensures { (fs : List CellForm) → Formed fs forms.now cells

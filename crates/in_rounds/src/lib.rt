@@ -87,7 +87,8 @@ fn show<'a>(
     })
 }
 
-// The answer as the number that C gets: the rounds, or the packed refusal.
+// The answer as the number that C gets: the rounds, or the packed refusal. One function for the answers of all calls is no plainer: each
+// caller has to map what its call gives to a number first, in as many words as this match has.
 pub fn packed(answer: Result<usize, Refused>) -> u32
     requires { Packable answer }
     ensures { result ≡ packed_rounds answer }

@@ -113,7 +113,10 @@ fn check_sheet(
     let sheet = &board[begin..end];
     let mut map = Map::empty();
     match sheet_check::check_map(sheet, &mut map) {
-        Err(refused) => Err(refused.why.at(begin + refused.place)),
+        Err(refused) => {
+            let counted = begin + refused.place;
+            Err(refused.why.at(counted))
+        }
         Ok(counts) => {
             put_behind(forms, here.cells, &map.cells[..counts.cells]);
             put_behind(types, here.inputs, &sheet[1..1 + counts.inputs]);

@@ -36,16 +36,17 @@ returns-in_err-walked c =
     rw (p.1, p.2) (finds-refusal a.board.now a.memory.now a.input.now a.output.now c.requires a.wanted
     (walk_refused c.in_err-walked.ensures))
 
-pub returns-in-Refused : goal.returns-in-Refused
-returns-in-Refused c =
+pub returns-in_err-check_buffers : goal.returns-in_err-check_buffers
+returns-in_err-check_buffers c =
     let a = c.args in
     let p = walk_through c.in_ok-walked.ensures in
-    rw c.at.ensures (finds_unfit a.board.now a.memory.now a.input.now a.output.now c.requires a.wanted p
-    (sym (c.check_buffers.ensures _ (all_formed p)) ∙ c.in-Err.is))
+    let q = err_from_is_err_and c.from_residual-in_err-check_buffers.result c.from_residual-in_err-check_buffers.ensures.1 in
+    rw (q.1, q.2) (finds_unfit a.board.now a.memory.now a.input.now a.output.now c.requires a.wanted p
+    (sym (c.check_buffers.ensures _ (all_formed p)) ∙ c.in_err-check_buffers.was))
 
-pub returns-in-Ok : goal.returns-in-Ok
-returns-in-Ok c =
+pub returns : goal.returns
+returns c =
     let a = c.args in
     let p = walk_through c.in_ok-walked.ensures in
     finds-all a.board.now a.memory.now a.input.now a.output.now c.requires a.wanted p
-    (sym (c.check_buffers.ensures _ (all_formed p)) ∙ c.in-Ok.is)
+    (sym (c.check_buffers.ensures _ (all_formed p)) ∙ c.in_ok-check_buffers.was)

@@ -3,7 +3,7 @@
 -- passes 18 and 19, at the lowest wire that reaches itself; and it refuses with no other numbers than 1 to 11, 17 and 21.
 use Rattle.std.specs.Prelude.{◌≡◌, ℕ, ◌≤◌, Bool, cond, List, ◌⊎◌, ◌↔◌, eqb, Ok}
 use Rattle.std.proofs.Math.Path.{refl, sym}
-use Rattle.std.proofs.Common.{ap, subst, ◌∙◌, inl, inr, eqb-true, ltb-true}
+use Rattle.std.proofs.Common.{subst, ◌∙◌, inl, inr, eqb-true, ltb-true}
 use native.Mathlib.Omega.{arith}
 use Rattle.std.proofs.Math.Bool.{true, false}
 use Rattle.std.proofs.Math.Dec.{ltb}
@@ -12,10 +12,9 @@ use Rattle.std.proofs.lemmas.Bool.{eqb-false}
 use Rattle.sheet.specs.Outcomes.{Outcome, refusal, result, followed_by, lowest, number_of, unless_any, refused_at}
 use Rattle.sheet.specs.Sheets.{Sheet, sheet_of}
 use Rattle.sheet.specs.Laws.Lists.{never}
-use Rattle.sheet.specs.Laws.Outcomes.{same-result}
+use Rattle.sheet.specs.Laws.Outcomes.{same-result, refused-parts}
 use Rattle.sheet.specs.Laws.Refusals.{OutcomeWithin, refusal-within, sheet-of-within}
 use Rattle.sheet.proofs.Laws.Typing.{passed_check, checked_well_typed}
-use Rattle.sheet.specs.declared.Refused.{Refused}
 use Rattle.sheet.specs.declared.Refusal.{Refusal}
 use Rattle.sheet.specs.declared.Refusal.TheVariants.{ScheduleLength, NoSchedule}
 use Rattle.kernel.specs.Instants.{wire_count}
@@ -31,12 +30,6 @@ use Rattle.maker.specs.Reaching.{Reads, reaches_itself}
 use Rattle.maker.specs.Making.{made_list, Schedule, schedule_for, made_of, maker_outcome, maker_call, made_answer}
 use Rattle.maker.proofs.Laws.Schedules.{lowest-loop, schedule_acyclic, LowestEverywhere, LeastEverywhere}
 use Rattle.maker.proofs.Laws.Schedules.{made-lowest, made-least, made_schedule, none_filled}
-
--- the parts of a refusal that is answered
-parts : {why found : Refusal} {place at : ℕ} → refused_at {A = ℕ} found at ≡ refused_at why place → (found ≡ why) × (at ≡ place)
-parts {why} {found} {place} {at} e =
-    let same : ◌≡◌ {A = Refused} (record { why = found; place = at }) (record { why = why; place = place }) = cc in
-    (ap (λ (r : Refused). r.why) same, ap (λ (r : Refused). r.place) same)
 
 -- no list passes the checks 17 to 19
 abbrev pub NoList : Sheet → Type 0
@@ -154,20 +147,20 @@ module _ (s lent : List ℕ) where
 
       loops : (place : ℕ) (x : Outcome Schedule) → Comes x → made_answer x ≡ refused_at NoSchedule place → LoopsAt place
       loops place _ (before {why = why} e) a =
-          absurd (omega (arith, rw (parts a).0 at (check_number e)))
-      loops place _ (sized sheet read other) a = never (cc (parts a).0)
+          absurd (omega (arith, rw (refused-parts a).0 at (check_number e)))
+      loops place _ (sized sheet read other) a = never (cc (refused-parts a).0)
       loops place _ (looped sheet read counted {place = at} loop) a =
-          record { sheet = sheet; read = read; counted = counted; loop = rw (parts a).1 at loop; none = no_list sheet loop }
+          record { sheet = sheet; read = read; counted = counted; loop = rw (refused-parts a).1 at loop; none = no_list sheet loop }
       loops place _ (found sheet read counted schedule everywhere least) a = never (cc)
 
       refused : (why : Refusal) (place : ℕ) (x : Outcome Schedule) → Comes x → made_answer x ≡ refused_at why place
           → (why ≡ NoSchedule) ⊎ (((why ≡ ScheduleLength) × WrongLength place) ⊎ RefusedSheet why place)
       refused why place _ (before {why = reason} {place = at} e) a =
-          let (why-is, place_is) = parts a in
+          let (why-is, place_is) = refused-parts a in
           inr (inr (record { number = rw why-is at (check_number e); refused = rw (e, why-is, place_is) }))
       refused why place _ (sized sheet read other) a =
-          inr (inl (sym (parts a).0, record { sheet = sheet; read = read; other = other; first = sym (parts a).1 }))
-      refused why place _ (looped sheet read counted loop) a = inl (sym (parts a).0)
+          inr (inl (sym (refused-parts a).0, record { sheet = sheet; read = read; other = other; first = sym (refused-parts a).1 }))
+      refused why place _ (looped sheet read counted loop) a = inl (sym (refused-parts a).0)
       refused why place _ (found sheet read counted schedule everywhere least) a = never (cc)
 
   -- of a sheet that passes the check, with a lent list of its length, 21 comes exactly if no list passes
@@ -221,11 +214,11 @@ module _ (s lent : List ℕ) where
   maker_bounded {why} {place} = go _ comes
     where
       go : (x : Outcome Schedule) → Comes x → made_answer x ≡ refused_at why place → place ≤ 4096
-      go _ (before {place = at} e) a = rw (parts a).1 at (bounded (rw e at (sheet-of-within s)))
+      go _ (before {place = at} e) a = rw (refused-parts a).1 at (bounded (rw e at (sheet-of-within s)))
         where
           bounded : {why : Refusal} {at : ℕ} → OutcomeWithin {A = Sheet} 11 (refusal why at) → at ≤ 4096
           bounded (refusal-within w) = w.bounded
-      go _ (sized sheet read other) a = omega (arith, (parts a).1)
+      go _ (sized sheet read other) a = omega (arith, (refused-parts a).1)
       go _ (looped sheet read counted {place = at} loop) a =
-          omega (arith, (parts a).1, loop.in_range, (passed_check s read).few-wires)
+          omega (arith, (refused-parts a).1, loop.in_range, (passed_check s read).few-wires)
       go _ (found sheet read counted schedule everywhere least) a = never (cc)

@@ -10,7 +10,7 @@ ghost use Rattle.lines.specs.Lines.{refused_line};
 ghost use Rattle.play.specs.Text.{played, length_at, sheet_in, rows_in, instants_due, is_complete, checked_text, bytes_text};
 ghost use Rattle.play.specs.Stages.{first_instant, next_instant, lines_left, Ready, Between, Gives, Room};
 
-use sheet::Refusal;
+use sheet::{Counts, Refused};
 
 // Where the player stands between two lines.
 #[derive(Clone, Copy)]
@@ -109,7 +109,7 @@ fn sheet_line(bytes: &[u8], memory: &mut [u8], text: &mut [u8]) -> Option<Line>
     let at = 2 + sheet_length(bytes);
     let sheet = &bytes[2..at];
     match sheet_check::check(sheet) {
-        Err(refused) => final_line(refused_line(text, refused.why, refused.place)),
+        Err(refused) => final_line(refused_line(text, refused)),
         Ok(counts) => {
             let cells_size = 5 * counts.cells;
             let _ = sheet_start::start(sheet, &mut memory[..cells_size]);
@@ -120,13 +120,7 @@ fn sheet_line(bytes: &[u8], memory: &mut [u8], text: &mut [u8]) -> Option<Line>
                 counts.outputs as u32,
                 counts.cells as u32,
             );
-            let progress = first_instant(
-                counts.inputs,
-                counts.outputs,
-                counts.cells,
-                at,
-                bytes.len() - at,
-            );
+            let progress = first_instant(counts, at, bytes.len() - at);
             Some(Line {
                 size,
                 stage: Stage::Playing(progress),
@@ -136,15 +130,15 @@ fn sheet_line(bytes: &[u8], memory: &mut [u8], text: &mut [u8]) -> Option<Line>
 }
 
 // The progress before the first instant: by the counts of the sheet, the place of its rows and their bytes.
-fn first_instant(inputs: usize, outputs: usize, cells: usize, at: usize, rows: usize) -> Progress
-    requires { (inputs ≤ 16) × (outputs ≤ 16) × (cells ≤ 64) }
-    ensures { result ≡ first_instant inputs outputs cells at rows }
+fn first_instant(counts: Counts, at: usize, rows: usize) -> Progress
+    requires { (counts.inputs ≤ 16) × (counts.outputs ≤ 16) × (counts.cells ≤ 64) }
+    ensures { result ≡ first_instant counts.inputs counts.outputs counts.cells at rows }
 {
-    let input = 4 * inputs;
+    let input = 4 * counts.inputs;
     Progress {
         input,
-        output: 4 * outputs,
-        memory: 5 * cells,
+        output: 4 * counts.outputs,
+        memory: 5 * counts.cells,
         turn: 0,
         due: instants_due(input, rows),
         at,
@@ -159,11 +153,11 @@ fn instants_due(size: usize, bytes: usize) -> usize
 }
 
 // Puts the line of a refusal.
-fn refused_line(text: &mut [u8], why: Refusal, place: usize) -> usize
-    requires { (256 ≤ length text.old) × (place ≤ 4096) }
-    ensures { Holds text.old (refused_line (number_of why) place) text.new result }
+fn refused_line(text: &mut [u8], refused: Refused) -> usize
+    requires { (256 ≤ length text.old) × (refused.place ≤ 4096) }
+    ensures { Holds text.old (refused_line (number_of refused.why) refused.place) text.new result }
 {
-    lines::refused_line(text, why.number(), place as u32)
+    lines::refused_line(text, refused.why.number(), refused.place as u32)
 }
 
 // Gives the line of the next instant, or of the bytes not used where none is due.
@@ -203,7 +197,7 @@ fn row_line(bytes: &[u8], progress: Progress, memory: &mut [u8], text: &mut [u8]
         &bytes[at..next],
         &mut output[..row_size],
     ) {
-        Err(refused) => final_line(refused_line(text, refused.why, refused.place)),
+        Err(refusal) => final_line(refused_line(text, refusal)),
         Ok(_) => {
             let size = lines::row_line(text, progress.turn, &output[..row_size]);
             let progress = next_instant(progress);

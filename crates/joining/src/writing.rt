@@ -1,12 +1,12 @@
 // The bytes of the joined sheet, written one section behind the other. Rests on `sheet` for the table of kinds.
 ghost use Rattle.std.specs.Prelude.{◌≡◌, ◌++◌, ◌+◌, ◌≤◌, ◌<◌, length};
-ghost use Rattle.sheet.specs.Kinds.{kind_count};
+ghost use Rattle.sheet.specs.KindBytes.{byte_of};
 ghost use Rattle.join.specs.Joined.{shifted_numbers};
 ghost use Rattle.join.specs.Bytes.{raise_of, shifted_bytes, counted, section, behind, joined_bytes};
 ghost use Rattle.join.proofs.Laws.Raised.{Raisable};
 ghost use Rattle.joining.specs.Writing.{Joinable, HasSection, BothBegin, CanRise, Puts};
 
-use sheet::kinds;
+use sheet::kinds::Kind;
 
 // Writes the joined sheet of two that pass, section by section, into a buffer of its length.
 pub fn write(first: &[u8], second: &[u8], joined: &mut [u8])
@@ -76,9 +76,10 @@ fn put_shifted(joined: &mut [u8], at: usize, bytes: &[u8], wires: u8, inputs: u8
     let mut raise = 0u8;
     for (i, &byte) in bytes.iter().enumerate() {
         if left == 0 {
+            let kind = Kind::of(byte);
             joined[at + i] = byte;
-            left = kinds::body(byte);
-            raise = raise_of(byte, wires, inputs);
+            left = kind.body();
+            raise = raise_of(kind, wires, inputs);
         } else {
             joined[at + i] = raise + byte;
             left -= 1;
@@ -87,13 +88,12 @@ fn put_shifted(joined: &mut [u8], at: usize, bytes: &[u8], wires: u8, inputs: u8
 }
 
 // By how much the body behind a kind byte is raised: what names a wire, an input, or nothing.
-fn raise_of(kind: u8, wires: u8, inputs: u8) -> u8
-    requires { kind < kind_count }
-    ensures { result ≡ raise_of wires inputs kind }
+fn raise_of(kind: Kind, wires: u8, inputs: u8) -> u8
+    ensures { result ≡ raise_of wires inputs (byte_of kind) }
 {
     match kind {
-        2 | kinds::LAST => wires,
-        3 => inputs,
+        Kind::Wire | Kind::Last => wires,
+        Kind::Input => inputs,
         _ => 0,
     }
 }

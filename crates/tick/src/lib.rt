@@ -46,10 +46,7 @@ fn served(sheet: usize, answer: Result<usize, Refused>) -> Ticked
     ensures { result ≡ served_answer sheet answer }
 {
     match answer {
-        Err(refused) => Ticked::LeftUnknown {
-            sheet,
-            wire: refused.place,
-        },
+        Err(Refused { why: _, place }) => Ticked::LeftUnknown { sheet, wire: place },
         Ok(rounds) => Ticked::Served { sheet, rounds },
     }
 }

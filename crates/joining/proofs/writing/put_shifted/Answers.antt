@@ -5,13 +5,8 @@ use Rattle.joining.proofs.writing.put_shifted.Goals as goal
 pub loop-i-init : goal.loop-i-init
 loop-i-init c = first-turn _ _ _ _ _ c.requires.1
 
-pub body-left-requires : goal.body-left-requires
-body-left-requires c =
-    kind-here _ _ _ _ _ c.loop-i.invariant c.loop-i-test.true c.if-left-eq0.true
-
-pub raise_of-raise-requires : goal.raise_of-raise-requires
-raise_of-raise-requires c =
-    kind-here _ _ _ _ _ c.loop-i.invariant c.loop-i-test.true c.if-left-eq0.true
+pub of-kind-requires : goal.of-kind-requires
+of-kind-requires c = kind-here _ _ _ _ _ c.loop-i.invariant c.loop-i-test.true c.if-left-eq0.true
 
 pub overflow_add-joined-else-left-eq0 : goal.overflow_add-joined-else-left-eq0
 overflow_add-joined-else-left-eq0 c =
@@ -26,7 +21,7 @@ loop-i-preserved c =
     let at = c.loop-i in
     let inside = c.loop-i-test.true in
     elim c.if-left-eq0.branch [
-      | goal.then-left-eq0 w ↦ rw (w.joined-is, w.left-is, w.raise-is, w.body-left.ensures, w.raise_of-raise.ensures) (kind-turn _ _ _ _ _ at.invariant inside c.requires.0 w.if-left-eq0.true)
+      | goal.then-left-eq0 w ↦ rw (w.joined-is, w.left-is, w.raise-is, w.body-left.ensures, w.raise_of-raise.ensures, w.of-kind.ensures) (kind-turn _ _ _ _ _ at.invariant inside c.requires.0 w.if-left-eq0.true)
       | goal.else-left-eq0 w ↦ rw (w.joined-is, w.left-is, w.raise-is)
           (body-turn _ _ _ _ _ at.invariant inside w.if-left-eq0.false (c.type_inv.bytes at.i).fits c.requires.0)
     ]

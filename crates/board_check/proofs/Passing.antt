@@ -3,10 +3,9 @@ use Prim.Native.Nat.{ℕ, ◌+◌, ◌≤◌}
 use mathlib.Core.Path.{◌≡◌, sym, ap, ◌∙◌}
 use mathlib.Core.List.{List, [], ◌∷◌, ◌++◌, map, map-append}
 use native.Mathlib.Omega.{arith}
-use lib.ListN.{length, take, length-map, length-take, length-append}
+use lib.ListN.{length, take, length-map, length-append}
 use lib.Seq.{take-length, paste, take-paste, length-paste}
 use Rattle.sheet.specs.Data.{type_of_byte}
-use Rattle.sheet.specs.Expressions.{CellForm}
 use Rattle.sheet.specs.Sheets.{Sheet, sheet_forms}
 use Rattle.sheet.specs.Typing.{Pairwise}
 use Rattle.sheet.proofs.Laws.Memory.{pairwise-length, pairwise_append}
@@ -14,11 +13,6 @@ use Rattle.buffers.specs.Tests.{Holds}
 use Rattle.board.specs.Parts.{joined, inputs_in}
 use Rattle.board.proofs.Laws.Parts.{joined-more}
 use Rattle.board_check.specs.Steps.{Collected}
-
--- there are as many as are taken
-pub held-there : {R : CellForm → ℕ → Type 0} {fs : List CellForm} (entries : List ℕ) (m : ℕ) → length fs ≡ m
-    → Pairwise R fs (take m entries) → m ≤ length entries
-held-there entries m sized held = omega (arith, simp length-take at (pairwise-length held))
 
 -- the parts of a sheet more are put behind the others
 module _ (sheets : List Sheet) (sheet : Sheet) (forms types entries bytes : List ℕ) where

@@ -11,6 +11,7 @@ use Rattle.sheet.specs.Sheets.{Sheet, sheet_forms, sheet_of, check_of}
 use Rattle.sheet.specs.Typing.{Pairwise}
 use Rattle.sheet.proofs.Laws.Checked.{check_refused, CheckPassed}
 use Rattle.sheet.specs.Laws.Refusals.{sheet-refused-inside}
+use Rattle.sheet.specs.declared.Counts.{Counts}
 use Rattle.sheet.specs.declared.Refusal.{Refusal}
 use Rattle.sheet_expressions.specs.Map.{CellNoted}
 use Rattle.buffers.specs.Laws.{noted-hold}
@@ -49,24 +50,25 @@ module _ (board : List ℕ) (here : Begin) (long : ℕ) (is : long ≡ length_at
     step-stops forms types e = rw (← same_bytes_lem, check_refused bytes e, at-is) stops
 
     -- a sheet that passes, with the entries of its cells
-    module _ (forms types entries : List ℕ) (room : Room board here forms types) {i w o m : ℕ}
-        (p : CheckPassed bytes i w o m) (noted : Pairwise (CellNoted bytes) (sheet_forms p.sheet) (take m entries)) where
+    module _ (forms types entries : List ℕ) (room : Room board here forms types) {counts : Counts}
+        (p : CheckPassed bytes counts.inputs counts.wires counts.outputs counts.cells)
+        (noted : Pairwise (CellNoted bytes) (sheet_forms p.sheet) (take counts.cells entries)) where
       abbrev own_entries : List ℕ
-      own_entries = take m entries
+      own_entries = take counts.cells entries
 
       abbrev type_bytes : List ℕ
-      type_bytes = take (1 + i - 1) (drop 1 bytes)
+      type_bytes = take (1 + counts.inputs - 1) (drop 1 bytes)
 
       pub step-goes : Collected done forms types
           → Steps board k here done (paste forms here.cells own_entries (length own_entries))
           (paste types here.inputs type_bytes (length type_bytes))
-          (placed_from (begin_of board k) (sheet_of (bytes_of board k))) (Ok (further_of here (here.at + 2 + long) m i o))
+          (placed_from (begin_of board k) (sheet_of (bytes_of board k))) (Ok (further_of here (here.at + 2 + long) counts))
       unfolding length_place
       step-goes c =
           let cells : here.cells ≡ length (joined sheet_forms done) = ap (λ (b : Begin). b.cells) place in
           let inputs : here.inputs ≡ length (joined inputs_in done) = ap (λ (b : Begin). b.inputs) place in
           let outputs : here.outputs ≡ length (joined outputs_in done) = ap (λ (b : Begin). b.outputs) place in
-          let next : further_of here (here.at + 2 + long) m i o ≡ behind (length_place board (suc k)) (done ++ p.sheet ∷ []) =
+          let next : further_of here (here.at + 2 + long) counts ≡ behind (length_place board (suc k)) (done ++ p.sheet ∷ []) =
           rw (
             is,
             at-is,
@@ -80,14 +82,14 @@ module _ (board : List ℕ) (here : Begin) (long : ℕ) (is : long ≡ length_at
             p.inputs_are,
             p.outputs-are,
           ) in
-          let further : Further here (further_of here (here.at + 2 + long) m i o) =
+          let further : Further here (further_of here (here.at + 2 + long) counts) =
           record {
             cells = omega (arith, p.few-cells);
             inputs = omega (arith, p.few-inputs);
             outputs = omega (arith, p.few-outputs);
           } in
-          let sized : length type_bytes ≤ i = simp (length-take) (omega arith) in
-          let formed : length own_entries ≤ m = simp (length-take) (omega arith) in
+          let sized : length type_bytes ≤ counts.inputs = simp (length-take) (omega arith) in
+          let formed : length own_entries ≤ counts.cells = simp (length-take) (omega arith) in
           let all = collected_more done p.sheet forms types own_entries type_bytes c (noted-hold noted) p.types
           (omega (arith, room.cells, p.few-cells, formed)) (omega (arith, room.inputs, p.few-inputs, sized)) in
           rw (← same_bytes_lem, p.outcome) (goes next further (rw (cells, inputs) all))

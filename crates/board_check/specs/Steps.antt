@@ -4,6 +4,7 @@ use Rattle.sheet.specs.Data.{type_of_byte}
 use Rattle.sheet.specs.Outcomes.{Outcome, refusal, result}
 use Rattle.sheet.specs.Sheets.{Sheet, sheet_forms}
 use Rattle.sheet.specs.Typing.{Pairwise}
+use Rattle.sheet.specs.declared.Counts.{Counts}
 use Rattle.sheet.specs.declared.Refused.{Refused}
 use Rattle.buffers.specs.Tests.{Holds}
 use Rattle.board.specs.Boards.{length_at, length_place}
@@ -12,10 +13,15 @@ use Rattle.board_check.specs.Found.{behind, Between}
 use Rattle.board_check.specs.declared.Begin.{Begin}
 use Rattle.board_check.specs.declared.Walked.{Walked}
 
--- where the next sheet and its parts begin, whose length stands at the place, behind so many cells, inputs and outputs more
-abbrev pub further_of : (here : Begin) (at cells inputs outputs : ℕ) → Begin
-further_of here at cells inputs outputs =
-    record { at = at; cells = here.cells + cells; inputs = here.inputs + inputs; outputs = here.outputs + outputs }
+-- where the next sheet and its parts begin, whose length stands at the place, behind what a sheet with these counts has
+abbrev pub further_of : (here : Begin) (at : ℕ) (counts : Counts) → Begin
+further_of here at counts =
+    record {
+      at = at;
+      cells = here.cells + counts.cells;
+      inputs = here.inputs + counts.inputs;
+      outputs = here.outputs + counts.outputs;
+    }
 
 -- the tables have room for eight sheets, and begin with the entries of the sheets' cells and the type bytes of their inputs
 pub record Collected (sheets : List Sheet) (forms types : List ℕ) : Type 0 where

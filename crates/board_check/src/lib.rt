@@ -12,7 +12,7 @@ ghost use Rattle.board.specs.Parts.{passed_of};
 ghost use Rattle.board_check.specs.Found.{behind, Finds};
 ghost use Rattle.board_check.specs.Steps.{further_of, Collected, Room, Steps, Walks};
 
-use sheet::Refused;
+use sheet::{Counts, Refused};
 use sheet_expressions::map::Map;
 
 // Where a sheet of a board and its parts begin: the place of its length, and how many cells, inputs and outputs the sheets before it have.
@@ -120,21 +120,21 @@ fn check_sheet(
         Ok(counts) => {
             put_behind(forms, here.cells, &map.cells[..counts.cells]);
             put_behind(types, here.inputs, &sheet[1..1 + counts.inputs]);
-            Ok(further(here, end, counts.cells, counts.inputs, counts.outputs))
+            Ok(further(here, end, counts))
         }
     }
 }
 
-// Where the next sheet and its parts begin, whose length stands at `at`, behind so many cells, inputs and outputs more.
-fn further(here: Begin, at: usize, cells: usize, inputs: usize, outputs: usize) -> Begin
-    requires { (here.cells + cells ≤ 512) × (here.inputs + inputs ≤ 128) × (here.outputs + outputs ≤ 128) }
-    ensures { result ≡ further_of here at cells inputs outputs }
+// Where the next sheet and its parts begin, whose length stands at `at`, behind what a sheet with these counts has.
+fn further(here: Begin, at: usize, counts: Counts) -> Begin
+    requires { (here.cells + counts.cells ≤ 512) × (here.inputs + counts.inputs ≤ 128) × (here.outputs + counts.outputs ≤ 128) }
+    ensures { result ≡ further_of here at counts }
 {
     Begin {
         at,
-        cells: here.cells + cells,
-        inputs: here.inputs + inputs,
-        outputs: here.outputs + outputs,
+        cells: here.cells + counts.cells,
+        inputs: here.inputs + counts.inputs,
+        outputs: here.outputs + counts.outputs,
     }
 }
 

@@ -1,5 +1,5 @@
 -- `check` meets its contract: the answer of the walk over the sheets, then of the tests of the whole memory and rows.
-use mathlib.Core.Path.{sym, ◌∙◌}
+use mathlib.Core.Path.{sym}
 use native.Mathlib.Omega.{arith}
 use Rattle.std.proofs.lemmas.Result.{err_from_is_err_and}
 use lib.ListN.{length-take}
@@ -39,14 +39,14 @@ returns-in_err-walked c =
 pub returns-in_err-check_buffers : goal.returns-in_err-check_buffers
 returns-in_err-check_buffers c =
     let a = c.args in
+    let r = err_from_is_err_and c.from_residual-in_err-check_buffers.result c.from_residual-in_err-check_buffers.ensures.1 in
     let p = walk_through c.in_ok-walked.ensures in
-    let q = err_from_is_err_and c.from_residual-in_err-check_buffers.result c.from_residual-in_err-check_buffers.ensures.1 in
-    rw (q.1, q.2) (finds_unfit a.board.now a.memory.now a.input.now a.output.now c.requires a.wanted p
-    (sym (c.check_buffers.ensures _ (all_formed p)) ∙ c.in_err-check_buffers.was))
+    rw (r.1, r.2) (finds_unfit a.board.now a.memory.now a.input.now a.output.now c.requires a.wanted p
+    (sym (c.in_err-check_buffers.ensures _ (all_formed p))))
 
 pub returns : goal.returns
 returns c =
     let a = c.args in
     let p = walk_through c.in_ok-walked.ensures in
     finds-all a.board.now a.memory.now a.input.now a.output.now c.requires a.wanted p
-    (sym (c.check_buffers.ensures _ (all_formed p)) ∙ c.in_ok-check_buffers.was)
+    (sym (c.in_ok-check_buffers.ensures _ (all_formed p)))

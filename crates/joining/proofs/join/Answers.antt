@@ -1,3 +1,4 @@
+-- `join` meets its contract: the refusal of the first sheet, that of the second, or what the two come to.
 use Rattle.std.proofs.lemmas.Result.{err_from_is_err_and}
 use mathlib.Core.Path.{sym, ◌∙◌}
 use Rattle.join.specs.declared.NotJoined.TheVariants.{First, Second}

@@ -13,6 +13,7 @@ use sheet::{Refusal, Refused};
 
 // The tick: 22, 1 to 11 of each sheet and 12 to 16 of the whole refuse it, and then nothing is changed, marks and number neither; else the
 // due marks are stored, and the first due sheet after the one served last is served: its mark is cleared, and its number kept.
+// The buffers stay parameters of their own: two are lent for writing, and `memory.old` behind a struct's loan reads no plainer.
 pub fn tick(
     board: &[u8],
     memory: &mut [u8],

@@ -66,7 +66,7 @@ pub extern "C" fn nuthatchbed_scheduled(
         output.old schedule.now).output }
 {
     match along_schedule::instant(sheet, memory, input, output, schedule) {
-        Err(refused) => refused.packed(),
-        Ok(()) => 0,
+        Err(not_run) => not_run.packed(),
+        Ok(_) => 0,
     }
 }

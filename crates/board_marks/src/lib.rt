@@ -30,7 +30,7 @@ pub fn byte_of(marks: Wires) -> u8
     (marks.bits % 256) as u8
 }
 
-// The first due sheet after the one served last, in ring order; `sheets` where none is due.
+// The first due sheet after the one served last, in ring order; `sheets` where none is due, as the definition of the same name has it.
 pub fn first_due(marks: Wires, sheets: usize, number: u8) -> usize
     requires { (1 ≤ sheets) × (sheets ≤ 8) }
     ensures { (due : ℕ → Bool) → MarksJust marks.bits sheets due → result ≡ first_due sheets due number }

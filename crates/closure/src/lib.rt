@@ -1,4 +1,5 @@
 // The closure of a relation on at most 64 wires, which is held as one set for each wire: those that it leads to.
+// The sets stand as bare bits, since the clauses of `Rows` speak of a list of numbers.
 // Rests on `wires` for the sets.
 #![tactic(auto)]
 
@@ -36,7 +37,7 @@ fn close(rows: &mut [u64; 64], count: usize)
 }
 
 // The lowest wire that leads to itself in one or more steps, or the count of the wires where none does. The rows are
-// closed in place, and what they hold then is free.
+// closed in place, and what they hold then is free. The count for none is what the definition of the same name says.
 pub fn lowest_loop(rows: &mut [u64; 64], count: usize) -> usize
     requires { (count ≤ 64) × (64 ≤ length rows.old) }
     ensures { (test : ℕ → ℕ → Bool) → Rows test count rows.old → result ≡ lowest_loop test count }

@@ -1,6 +1,7 @@
 // What a constant, a wire or an input stands for, kinds 0 to 3. Rests on `numbers` for a constant and on the set of known wires.
 ghost use Rattle.std.specs.Prelude.{◌≡◌, ◌<◌};
 ghost use Rattle.sheet.specs.Kinds.{body_of};
+ghost use Rattle.sheet.specs.KindBytes.{byte_of};
 ghost use Rattle.leaves.specs.Leaves.{Leaf, known_by, leaf_word, leaf_known, leaf_valued};
 
 use crate::Valued;
@@ -12,14 +13,13 @@ use wires::Wires;
 pub const FIRST_INPUT: usize = 64;
 
 // Whether the value of a leaf of the kind is known: that of a wire where the set has the one that is named, and any other.
-fn is_known(known: Wires, kind: u8, named: u8) -> bool
-    requires { kind ≡ 2 → named < 64 }
-    ensures { result ≡ known_by known.bits kind named }
+fn is_known(known: Wires, kind: Kind, named: u8) -> bool
+    requires { byte_of kind ≡ 2 → named < 64 }
+    ensures { result ≡ known_by known.bits (byte_of kind) named }
 {
-    if kind == 2 {
-        known.has(named as usize)
-    } else {
-        true
+    match kind {
+        Kind::Wire => known.has(named as usize),
+        _ => true,
     }
 }
 
@@ -37,12 +37,15 @@ fn word_of(sheet: &[u8], words: &[u32; 144], at: usize) -> u32
     }
 }
 
-// How many bytes the body has.
-pub fn body(kind: u8) -> usize
-    requires { kind < 4 }
-    ensures { result ≡ body_of kind }
+// How many bytes the body has: told by one test, as a look-up in the table of kinds costs more where leaves are half of all.
+fn body(kind: Kind) -> usize
+    requires { byte_of kind < 4 }
+    ensures { result ≡ body_of (byte_of kind) }
 {
-    if kind == 1 { 4 } else { 1 }
+    match kind {
+        Kind::NumberConstant => 4,
+        _ => 1,
+    }
 }
 
 // The value where it is known; it has no cells.
@@ -53,7 +56,7 @@ pub fn known_leaf(sheet: &[u8], words: &[u32; 144], here: Place) -> Valued
     Valued {
         word: word_of(sheet, words, here.at),
         end: Place {
-            at: here.at + 1 + body(sheet[here.at]),
+            at: here.at + 1 + body(Kind::of(sheet[here.at])),
             cell: here.cell,
         },
     }
@@ -64,7 +67,7 @@ pub fn value_leaf(sheet: &[u8], known: Wires, words: &[u32; 144], here: Place) -
     requires { Leaf sheet.now here.at }
     ensures { result ≡ leaf_valued sheet.now words.now known.bits here }
 {
-    if is_known(known, sheet[here.at], sheet[here.at + 1]) {
+    if is_known(known, Kind::of(sheet[here.at]), sheet[here.at + 1]) {
         Some(known_leaf(sheet, words, here))
     } else {
         None

@@ -71,7 +71,8 @@ fn look_again(
     found
 }
 
-// What came of placing: how many positions are filled, and the greatest depth of the wires there.
+// What came of placing: how many positions are filled, and the greatest depth of the wires there. No `Option` of the depth: the
+// law of a list that leaves a wire out speaks of the positions filled.
 #[derive(Clone, Copy)]
 pub struct Positions {
     pub filled: usize,

@@ -17,7 +17,8 @@ use sheet_walk::Place;
 use storing::advance::{self, Fixed};
 
 // Stores the cells of all wires under the finished values, which the words hold. These are just what the expressions give, so that a kept wire's
-// word is stored as it is, and nothing is worked out again where an expression owns no cell.
+// word is stored as it is, and nothing is worked out again where an expression owns no cell. The memory is written, so that it stands in no
+// struct with what is only read.
 pub fn store(sheet: &[u8], memory: &mut [u8], types: &[u8], map: &Map, words: &[u32; 144])
     requires { Settled sheet.now memory.old types.now map.now.places map.now.firsts words.now }
     ensures { (f : Settled sheet.now memory.old types.now map.now.places map.now.firsts words.now)

@@ -25,6 +25,7 @@ pub fn to_bits(number: i32) -> u32
 }
 
 // The one place that says what becomes of a result that 32 bits may not hold: it stops at the end that it passed.
+// No `saturating_add` at each operation, as the rule would stand in three places.
 fn settle(z: i64) -> i32
     ensures { result ≡ settled z }
 {
@@ -74,7 +75,7 @@ pub fn word_at(bytes: &[u8], at: usize) -> u32
     u32::from_le_bytes([bytes[at], bytes[at + 1], bytes[at + 2], bytes[at + 3]])
 }
 
-// A byte as a length: the prover knows the bounds of a parameter, but not those of an element.
+// A byte as a length, public as its clause is cited: the prover knows the bounds of a parameter, but not those of an element.
 pub fn length_of(byte: u8) -> usize
     ensures { (result ≡ byte) × (result < 256) }
 {

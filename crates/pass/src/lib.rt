@@ -11,6 +11,7 @@ use expression::Basis;
 use rounds::Instant;
 use wires::Wires;
 
+// The basis is written out, here, in `rounds` and in `waiting`: a method that lends it from an instant gets no proof at its callers.
 // The pass along `list`: the wire at each position gets what its expression yields under the values so far.
 pub fn pass(instant: &Instant, list: &[u8], words: &mut [u32; 144]) -> Wires
     requires { AlongOn instant.now list.now words.old }

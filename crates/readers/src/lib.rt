@@ -1,5 +1,5 @@
 // The wires that read each wire, from the sets of the wires that each one reads; so that a wire which becomes known names its readers at
-// once. Rests on `wires` for sets.
+// once. Rests on `wires` for sets. The tables hold bare bits, as `closure` and the map do: their clauses speak of lists of numbers.
 #![tactic(auto)]
 
 ghost use Rattle.std.specs.Prelude.{ℕ, ◌≤◌, ◌<◌, ◌≡◌, length, get_or};

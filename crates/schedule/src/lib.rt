@@ -11,7 +11,8 @@ ghost use Rattle.kernel.specs.Schedules.{entry_at, not_new, too_early, schedule_
 use sheet::{Refusal, Refused};
 use wires::Wires;
 
-// The first position whose entry is none of the wires or was named before; the count of the wires where there is none.
+// The first position whose entry is none of the wires or was named before; the count of the wires where there is none, as `lowest` of the
+// definitions has it, which an `Option` would have to be turned into.
 fn first_not_new(list: &[u8], wires: usize) -> usize
     requires { (wires ≤ 64) × (length list.now ≡ wires) }
     ensures { result ≡ lowest (not_new list.now wires) wires }

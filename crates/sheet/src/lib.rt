@@ -15,7 +15,7 @@ pub enum Datum {
     Number(i32),
 }
 
-// One cell of a memory: an fby's cell holds nothing before its first instant.
+// One cell of a memory: an fby's cell holds nothing before its first instant. No `Option<Datum>`, as a value of the kernel would be one too.
 #[derive(Clone, Copy)]
 pub enum Cell {
     NotStarted,

@@ -10,7 +10,7 @@ use wires::Wires;
 
 // What the expressions of a sheet may name. Two tables are looked up by the kind of a leaf, 0 to 3: the sets of the names that stand for a
 // number, and what the names stay below. A constant names itself: of the Booleans there are two, and a number begins with any byte. Then
-// the set of the kept wires, and how many of them are ahead.
+// the set of the kept wires, and how many of them are ahead. A kind is given as its byte, which is the index into both.
 #[derive(Drop)]
 pub struct Names {
     pub numbers: [u64; 4],

@@ -65,7 +65,8 @@ fn start_cell(sheet: &[u8], entry: u16) -> Cell
     sheet_cells::own_cell(sheet, owner)
 }
 
-// The answer where the sheet passes the check: done where the memory was filled, else 12.
+// The answer where the sheet passes the check: done where the memory was filled, else 12. It stands apart from the filling, so that an edit
+// can fill what is refused.
 fn started(filled: bool) -> Result<(), Refused>
     ensures { result ≡ cond filled (Ok tt) (refused_at MemoryLength 0) }
 {

@@ -14,7 +14,7 @@ pub struct Place {
     pub cell: usize,
 }
 
-// The end of the expression that stands here: the place of the next one.
+// The end of the expression that stands here: the place of the next one. No `for`, as each step is as long as what it reads says.
 pub fn skip(sheet: &[u8], here: Place) -> Place
     requires { Readable sheet.now here.at here.cell }
     ensures { (p : Readable sheet.now here.at here.cell) → result ≡ record { at = p.next; cell = p.count } }

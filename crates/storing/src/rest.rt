@@ -6,7 +6,7 @@ ghost use Rattle.storing.specs.Advances.{Room, Restarts, Arm, Rests, RestsIf};
 use sheet::kinds::Kind;
 use sheet_walk::Place;
 
-// The walk past the expression that stands here, which puts each cell that it meets as it is at the start.
+// The walk past the expression that stands here, which puts each cell that it meets as it is at the start. No `for`, as in `skip`.
 fn restart(sheet: &[u8], here: Place, memory: &mut [u8]) -> Place
     requires { Room sheet.now (length memory.old) here }
     ensures { (p : Room sheet.now (length memory.old) here) → Restarts p.place memory.old result memory.new }

@@ -17,7 +17,8 @@ use expression::Basis;
 use rounds::Instant;
 use wires::Wires;
 
-// The unknown wires that a wire waits for: a known one waits for none.
+// The unknown wires that a wire waits for: a known one waits for none. Known wires and words stand beside the instant, as a `Basis` would
+// have sheet and memory a second time.
 fn set_of(instant: &Instant, known: Wires, words: &[u32; 144], wire: usize) -> Wires
     requires { RunningUnderOn instant.now known.bits words.now × (wire < length instant.now.types.now) }
     ensures { (u : RunningUnderOn instant.now known.bits words.now) → (w : ℕ) → member result.bits w ≡ waits_in u wire w }

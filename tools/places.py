@@ -26,9 +26,10 @@ sources = files(r'crates/\w+/src/.*\.rt')
 answers = files(r'crates/\w+/proofs/.*/Answers\.antt')
 
 
-def lines(pattern):
-    return [f'{name}:{k}: {line.strip()}' for name, text in sources.items() for k, line in enumerate(text.split('\n'), 1)
-            if re.search(pattern, line) and not line.strip().startswith('//') and not line.strip().startswith('ghost use')]
+def lines(pattern, but='/none/'):
+    return [f'{name}:{k}: {line.strip()}' for name, text in sources.items() if but not in name
+            for k, line in enumerate(text.split('\n'), 1)
+            if re.search(pattern, line) or re.search(pattern, line.strip()) if not re.match(r'\s*(//|ghost use)', line)]
 
 
 class Function:
@@ -90,7 +91,7 @@ points = [
     ('1 own enums of the shape of Option or Result', list(enums())),
     ('1 flags with a value beside them', lines(r'\b(known|filled|whole|complete): bool')),
     ('1 numbers for none', lines(r'\.(lowest|end)\(\) as usize|^\s+(let \w+ = )?(first_\w+|closure::lowest_loop|board_marks::first_due)\(')),
-    ('1 literal numbers for kinds', lines(r'\b(kind|sheet\[\w+\]) (==|<|<=|>=) \d+|\b\d+ <= kind\b|match (sheet\[|kind\b)')),
+    ('1 literal numbers for kinds', lines(r'\b(kind|sheet\[[\w.]+\]) (==|<|<=|>=) \d+|\b\d+ <= (kind\b|sheet\[)|^\d+(\.\.=\d+| \| [\w:]+)* => ', 'main_loop')),
     ('2 functions with a twin of the same shape', [str(f) for g in twins for f in g]),
     ('3 loops by hand: while or loop', lines(r'^\s+(while|loop)\b')),
     ('4 casts', lines(r'\bas (u8|u16|u32|u64|usize|i32|i64)\b')),
@@ -99,7 +100,7 @@ points = [
     ('5 facts in the requires of three or more functions', [f'{len(p)} times: {fact}' for fact, p in sorted(repeated.items())]),
     ('6 a place in a buffer handed on beside it', [str(f) for f in everything if re.search(r'(buffer|joined): &mut \[u8\],\s+at: usize', f.head)]),
     ('6 tables of bare numbers in signatures', lines(r'\[(u64; 64|u64; 10|u16; 64|u16; 512|u8; 64|u8; 128|u32; 144)\](,|\)| ->|$)')),
-    ('7 a match that picks a step', lines(r'^\s+match (sheet\[|stage|kind|marks)')),
+    ('7 a match that picks a step', lines(r'^\s+match (\w+\.)?(sheet\[|stage\b|kind\b)|^\s+match Kind::of')),
     ('8 files of answers', list(answers)),
     ('8 lines of lets that a file of answers has three times or more', [f'{name}: {n}' for name, n in again.items() if n]),
 ]

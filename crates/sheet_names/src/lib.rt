@@ -3,14 +3,16 @@
 #![tactic(auto)]
 
 ghost use Rattle.std.specs.Prelude.{◌≡◌, List, ℕ, ◌-◌, ◌≤◌, ◌<◌, length, get_or};
+ghost use Rattle.sheet.specs.KindBytes.{byte_of};
 ghost use Rattle.sheet.specs.Sheets.{kept_count};
 ghost use Rattle.sheet_names.specs.Naming.{limit_in, type_in, kept_in, ahead_in, Naming, Sorted};
 
+use sheet::kinds::Kind;
 use wires::Wires;
 
 // What the expressions of a sheet may name. Two tables are looked up by the kind of a leaf, 0 to 3: the sets of the names that stand for a
 // number, and what the names stay below. A constant names itself: of the Booleans there are two, and a number begins with any byte. Then
-// the set of the kept wires, and how many of them are ahead. A kind is given as its byte, which is the index into both.
+// the set of the kept wires, and how many of them are ahead.
 #[derive(Drop)]
 pub struct Names {
     pub numbers: [u64; 4],
@@ -75,17 +77,17 @@ impl Names {
     }
 
     // What a name of this kind stays below.
-    pub fn limit(&self, kind: u8) -> u64
-        requires { kind < 4 }
-        ensures { result ≡ limit_in self.now kind }
+    pub fn limit(&self, kind: Kind) -> u64
+        requires { byte_of kind < 4 }
+        ensures { result ≡ limit_in self.now (byte_of kind) }
     {
         self.limits[kind as usize]
     }
 
     // The type byte of what a leaf of this kind names, where `byte` follows its kind byte.
-    pub fn type_of(&self, kind: u8, byte: u8) -> u8
-        requires { kind < 4 }
-        ensures { result ≡ type_in self.now kind byte }
+    pub fn type_of(&self, kind: Kind, byte: u8) -> u8
+        requires { byte_of kind < 4 }
+        ensures { result ≡ type_in self.now (byte_of kind) byte }
     {
         ((self.numbers[kind as usize] >> (byte % 64) as u32) % 2) as u8
     }

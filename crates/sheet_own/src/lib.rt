@@ -44,10 +44,10 @@ pub fn check_leaf(
         return Err(Refusal::Cut.at(sheet.len()));
     }
     let named = sheet[at + 1];
-    if names.limit(sheet[at]) <= named as u64 {
+    if names.limit(kind) <= named as u64 {
         return Err(Refusal::Body.at(at));
     }
-    if names.type_of(sheet[at], named) != asked {
+    if names.type_of(kind, named) != asked {
         return Err(Refusal::TypeAsked.at(at));
     }
     let bits = *reads;
@@ -77,7 +77,7 @@ pub fn check_last(
     if !names.is_kept(named) {
         return Err(Refusal::Body.at(at));
     }
-    if names.type_of(2, named) != asked {
+    if names.type_of(Kind::Wire, named) != asked {
         return Err(Refusal::TypeAsked.at(at));
     }
     Ok(Got {

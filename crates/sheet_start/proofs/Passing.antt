@@ -5,7 +5,6 @@ use mathlib.Core.Bool.{Bool, true, false, cond}
 use mathlib.Core.List.{List}
 use lib.Dec.{eqb}
 use lib.ListN.{length}
-use Rattle.sheet.specs.Expressions.{CellForm}
 use Rattle.sheet.specs.Outcomes.{refusal, result, holds_after, done_of}
 use Rattle.sheet.specs.declared.Counts.{Counts}
 use Rattle.sheet.specs.Sheets.{Sheet, forms_of, sheet_forms, sheet_of, check_of}
@@ -47,15 +46,6 @@ passes s counts e mapped =
       };
       same = same;
     }
-
--- a memory of its length is filled, and one of another length is left as it is and refused
-module _ {forms : List CellForm} {count : ℕ} (counted : count ≡ length forms) (memory : List ℕ) {answer : Result (Unit {0}) Refused} {after : List ℕ}
-    (answers : answer ≡ cond (eqb (length memory) (5 * count)) (Ok tt) (refused_at MemoryLength 0)) where
-  pub starts-filled : eqb (length memory) (5 * count) ≡ true → after ≡ memory_bytes (start_memory forms) → Starts forms memory answer after
-  starts-filled fits filled = record { answers = rw (← counted) answers; holds = rw (← counted, fits) filled }
-
-  pub starts-refused : eqb (length memory) (5 * count) ≡ false → after ≡ memory → Starts forms memory answer after
-  starts-refused unfit same = record { answers = rw (← counted) answers; holds = rw (← counted, unfit) same }
 
 -- the start's call, case by case
 module _ (s memory : List ℕ) where

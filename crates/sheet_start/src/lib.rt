@@ -34,11 +34,11 @@ fn start_cells(
     ensures { (p : Noted sheet.now cells.now count)
         → Starts p.forms memory.old result memory.new }
 {
-    let sized = memory.len() == 5 * count;
-    if sized {
+    if memory.len() == 5 * count {
         fill(sheet, cells, count, memory);
+        return Ok(());
     }
-    started(sized)
+    Err(Refusal::MemoryLength.at(0))
 }
 
 // Puts each of the cells, which are noted, as it is at the start.
@@ -63,15 +63,4 @@ fn start_cell(sheet: &[u8], entry: u16) -> Cell
         return Cell::Started(data::datum_of((entry % 4) as u8, 0));
     }
     sheet_cells::own_cell(sheet, owner)
-}
-
-// The answer where the sheet passes the check: done where the memory was filled, else 12. It stands apart from the filling, so that an edit
-// can fill what is refused.
-fn started(filled: bool) -> Result<(), Refused>
-    ensures { result ≡ cond filled (Ok tt) (refused_at MemoryLength 0) }
-{
-    if filled {
-        return Ok(());
-    }
-    Err(Refusal::MemoryLength.at(0))
 }

@@ -34,7 +34,7 @@ returns-then-limit-named c l =
     p.1 p.2 p.3 p.4
     (omega (arith, c.shared_slice_known-1.given (a.at + 1)))
     (omega (arith, c.body-body.ensures ∙ ap body_of c.of-kind.ensures, c.if-sheet-at.false))
-    (omega (arith, c.limit.ensures, c.if-limit-named.true)))
+    (omega (arith, (rw c.of-kind.ensures at c.limit.ensures), c.if-limit-named.true)))
     (ap Err c.at-then-limit-named.ensures)
 
 pub returns-then-type_of-asked : goal.returns-then-type_of-asked
@@ -50,8 +50,8 @@ returns-then-type_of-asked c l =
       c.body-body.ensures ∙ ap body_of c.of-kind.ensures,
       c.if-sheet-at.false,
     ))
-    (omega (arith, c.limit.ensures, c.if-limit-named.false))
-    (λ e. c.if-type_of-asked.true (c.type_of.ensures ∙ e)))
+    (omega (arith, (rw c.of-kind.ensures at c.limit.ensures), c.if-limit-named.false))
+    (λ e. c.if-type_of-asked.true ((rw c.of-kind.ensures at c.type_of.ensures) ∙ e)))
     (ap Err c.at-then-type_of-asked.ensures)
 
 pub with_named-grown-requires : goal.with_named-grown-requires
@@ -67,7 +67,7 @@ with_named-grown-requires c =
       c.body-body.ensures ∙ ap body_of c.of-kind.ensures,
       c.if-sheet-at.false,
     ))
-    (omega (arith, c.limit.ensures, c.if-limit-named.false))
+    (omega (arith, (rw c.of-kind.ensures at c.limit.ensures), c.if-limit-named.false))
     (sym c.of-kind.ensures ∙ is)
 
 pub returns : goal.returns
@@ -86,8 +86,8 @@ returns c l =
       c.body-body.ensures ∙ ap body_of c.of-kind.ensures,
       c.if-sheet-at.false,
     ))
-    (omega (arith, c.limit.ensures, c.if-limit-named.false))
-    (sym c.type_of.ensures ∙ c.if-type_of-asked.false) in
+    (omega (arith, (rw c.of-kind.ensures at c.limit.ensures), c.if-limit-named.false))
+    (sym (rw c.of-kind.ensures at c.type_of.ensures) ∙ c.if-type_of-asked.false) in
     record {
       answers = rw (c.body-body.ensures ∙ ap body_of c.of-kind.ensures) good;
       reads =

@@ -8,9 +8,6 @@ use Rattle.sheet.specs.Laws.Headers.{field_good}
 use Rattle.sheet_header.proofs.Fields.{byte_good, byte-refused}
 use Rattle.sheet_header.proofs.bytes.Goals as goal
 
-pub loop-byte-init : goal.loop-byte-init
-loop-byte-init c = let all : c.args.count - 0 ≡ c.args.count = omega arith in rw all
-
 pub returns-in_err-one : goal.returns-in_err-one
 returns-in_err-one c =
     let a = c.args in

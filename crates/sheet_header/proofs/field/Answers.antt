@@ -1,5 +1,4 @@
 -- `field` meets its contract, test by test.
-use native.Mathlib.Omega.{arith}
 use borrow.Author.Tests.{le-leb, lt-leb, le-ltb, lt-ltb}
 use Rattle.sheet.specs.Headers.{field_of}
 use Rattle.sheet_header.proofs.field.Goals as goal
@@ -7,9 +6,6 @@ use Rattle.sheet_header.proofs.field.Goals as goal
 pub returns-then-sheet-at : goal.returns-then-sheet-at
 unfolding field_of
 returns-then-sheet-at c = simp (c.at.ensures, le-leb _ _ c.if-sheet-at.true)
-
-pub overflow_cast-byte : goal.overflow_cast-byte
-overflow_cast-byte c = omega (arith, c.shared_slice_known-1.given c.args.at)
 
 pub returns-then-byte-low : goal.returns-then-byte-low
 unfolding field_of

@@ -7,12 +7,9 @@ use lib.ListN.{drop_of_length-le}
 use Rattle.sheet.specs.Data.{is_kept}
 use Rattle.sheet.specs.Sheets.{kept_count}
 use Rattle.sheet.proofs.Laws.Wires.{kept-few}
-use Rattle.sheet_names.proofs.Numbers.{none_before, name-added, name-passed, all-before, kept-counted}
+use Rattle.sheet_names.proofs.Numbers.{name-added, name-passed, all-before, kept-counted}
 use Rattle.sheet_names.proofs.types_of.Invariants.{is_number}
 use Rattle.sheet_names.proofs.types_of.Goals as goal
-
-pub loop-i-init : goal.loop-i-init
-loop-i-init c = (none_before _ _ c.none-numbers.ensures, none_before _ _ c.none-kept.ensures, omega arith)
 
 pub overflow_add-count : goal.overflow_add-count
 overflow_add-count c =

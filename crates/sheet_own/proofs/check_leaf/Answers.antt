@@ -4,7 +4,7 @@ use mathlib.Core.Path.{sym, ap, ◌∙◌}
 use Rattle.sheet.specs.Kinds.{body_of}
 use Rattle.std.specs.Prelude.{Err}
 use native.Mathlib.Omega.{arith}
-use Rattle.sheet_own.proofs.Nodes.{leaf-long, leaf-refused, leaf-cut, leaf_wrong, leaf-other, leaf_good, wire-below, joins-named}
+use Rattle.sheet_own.proofs.Nodes.{leaf-refused, leaf-cut, leaf_wrong, leaf-other, leaf_good, wire-below, joins-named}
 use Rattle.sheet_own.proofs.check_leaf.Goals as goal
 
 pub returns-then-sheet-at : goal.returns-then-sheet-at
@@ -17,13 +17,6 @@ returns-then-sheet-at c l =
     (omega (arith, c.shared_slice_known-1.given (a.at + 1)))
     (omega (arith, c.body-body.ensures ∙ ap body_of c.of-kind.ensures, c.if-sheet-at.true)))
     (ap Err c.at.ensures)
-
-pub bounds-sheet-at-2 : goal.bounds-sheet-at-2
-bounds-sheet-at-2 c =
-    omega (arith, c.body-body.ensures ∙ ap body_of c.of-kind.ensures, c.if-sheet-at.false, leaf-long _ c.requires.2)
-
-pub overflow_cast-named : goal.overflow_cast-named
-overflow_cast-named c = omega (arith, c.shared_slice_known-3-1.given (c.args.at + 1))
 
 pub returns-then-limit-named : goal.returns-then-limit-named
 returns-then-limit-named c l =

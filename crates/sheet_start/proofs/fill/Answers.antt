@@ -9,16 +9,9 @@ pub loop-k-init : goal.loop-k-init
 loop-k-init c =
     (refl, λ p. sets-all _ _ (start-length p.forms ∙ omega (arith, p.counted, c.requires.memory_len)))
 
-pub bounds-cells-k : goal.bounds-cells-k
-bounds-cells-k c = omega (arith, c.requires.noted.few)
-
 pub start_cell-requires : goal.start_cell-requires
 start_cell-requires c =
     (noted-at c.requires.noted _ c.loop-k-test.true).owner
-
-pub put_cell-requires : goal.put_cell-requires
-put_cell-requires c =
-    omega (arith, c.requires.memory_len, c.loop-k.invariant.0, c.loop-k-test.true)
 
 pub loop-k-preserved : goal.loop-k-preserved
 loop-k-preserved c =
@@ -27,9 +20,6 @@ loop-k-preserved c =
       λ p. next-put p l.k l.memory _ _ c.loop-k-test.true c.start_cell.ensures c.put_cell.ensures
           (l.invariant.1 p),
     )
-
-pub shape_of-memory : goal.shape_of-memory
-shape_of-memory c = c.loop-k.invariant.0
 
 pub returns : goal.returns
 returns c = λ p. all-put p c.loop-k.k _ c.loop-k-test.false (c.loop-k.invariant.1 p)

@@ -1,7 +1,6 @@
 -- `Wires::first` meets its contract: a power of two less one has all digits below its own.
 use Prim.Native.Nat.{◌<◌}
 use native.Mathlib.Omega.{arith}
-use lib.Pow.{pow_pos}
 use Rattle.wires.proofs.Bits.{first-is, power_is}
 use Rattle.wires.proofs.Wires.first.Goals as goal
 
@@ -11,9 +10,6 @@ few c = omega (arith, c.requires)
 
 pub returns-then-count-eq64 : goal.returns-then-count-eq64
 returns-then-count-eq64 c = λ k. rw c.if-count-eq64.true (first-is 64 k)
-
-pub overflow_sub-result : goal.overflow_sub-result
-overflow_sub-result c = let n = c.args.count in rw (power_is n (few c)) (omega (arith, pow_pos n))
 
 pub returns : goal.returns
 returns c = λ k. let n = c.args.count in rw (power_is n (few c)) (first-is n k)

@@ -1,12 +1,7 @@
 -- `first_due` meets its contract. The loop's invariant: no sheet at an earlier place in the ring is due.
 use mathlib.Core.Path.{◌∙◌}
-use native.Mathlib.Omega.{arith}
-use borrow.Author.Count.{below_more}
 use Rattle.board_marks.proofs.Ring.{due-at, first_found, none_found}
 use Rattle.board_marks.proofs.first_due.Goals as goal
-
-pub loop-i-init : goal.loop-i-init
-loop-i-init c = (omega arith, λ due just j l. absurd (omega arith))
 
 pub returns-then-has : goal.returns-then-has
 returns-then-has c due just =
@@ -17,17 +12,6 @@ returns-then-has c due just =
     let passes = due-at start.args.number just _ turn.i _ last sheet.0 sheet.1 c.has.ensures ∙ c.if-has.true in
     first_found start.args.number just _ turn.i _ last sheet.0 c.loop-i-test.true passes
     (turn.invariant.1 due just)
-
-pub loop-i-preserved : goal.loop-i-preserved
-loop-i-preserved c =
-    let start = c.before.before.before.before.before.before in
-    let turn = c.loop-i in
-    let last = c.served_last-last.ensures.0 in
-    let sheet = c.ring_at-sheet.ensures in (
-      omega arith,
-      λ due just. below_more _ _ (turn.invariant.1 due just)
-          (due-at start.args.number just _ turn.i _ last sheet.0 sheet.1 c.has.ensures ∙ c.if-has.false),
-    )
 
 pub returns : goal.returns
 returns c due just =

@@ -6,9 +6,6 @@ use Rattle.expression.proofs.Views.{opened, whole, readable, pre-view, own-cell}
 use Rattle.expression.proofs.Answers.{pre-answer}
 use Rattle.expression.proofs.value.value_pre.Goals as goal
 
-pub overflow_add-operand-2 : goal.overflow_add-operand-2
-overflow_add-operand-2 c = omega (arith, (opened c.requires.placed.1).good.ends, c.body.ensures ∙ ap body_of c.of.ensures)
-
 pub overflow_add-operand-3 : goal.overflow_add-operand-3
 overflow_add-operand-3 c = omega (arith, (opened c.requires.placed.1).good.cells)
 
@@ -26,6 +23,3 @@ pub returns : goal.returns
 returns c =
     λ t p. pre-answer p c.args.fresh c.requires.bound.0 c.requires.bound.1 (c.body.ensures ∙ ap body_of c.of.ensures)
     c.pre_word.ensures c.skip.ensures
-
-pub of-requires : goal.of-requires
-of-requires c = (opened c.requires.placed.1).good.kind

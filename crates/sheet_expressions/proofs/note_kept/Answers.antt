@@ -1,18 +1,8 @@
 -- `note_kept` meets its contract: the entry that is stored is that of the wire's own cell, and a wire that is not kept has none.
 use native.Mathlib.Nat.{sub-zero}
-use native.Mathlib.Omega.{arith}
 use borrow.Author.Tests.{le-leb, lt-leb}
 use Rattle.sheet_expressions.proofs.Noting.{entered-none, kept-entered}
 use Rattle.sheet_expressions.proofs.note_kept.Goals as goal
-
-pub bounds-cells-number : goal.bounds-cells-number
-bounds-cells-number c =
-    let p = c.requires in
-    let one = rw (le-leb _ _ c.if-byte-ge2.true) at p.0 in
-    omega (arith, c.ahead.ensures, p.2)
-
-pub pass_kept-requires : goal.pass_kept-requires
-pass_kept-requires c = rw (le-leb _ _ c.if-byte-ge2.true) at c.requires.0
 
 pub returns-then-byte-ge2 : goal.returns-then-byte-ge2
 returns-then-byte-ge2 c =

@@ -1,5 +1,5 @@
 -- `given_of` meets its contract: the answers follow those of the check and of the buffers' tests, and what passed is granted.
-use mathlib.Core.Path.{sym, ◌∙◌}
+use mathlib.Core.Path.{sym}
 use native.Mathlib.Omega.{arith}
 use lib.ListN.{length-take}
 use Rattle.std.proofs.lemmas.Result.{err_from_is_err_and}

@@ -1,19 +1,10 @@
 -- `instant` meets its contract: after a refusal nothing is stored, else what was shown is ready to be stored.
 use mathlib.Core.Path.{sym, ap, ◌∙◌}
-use Rattle.std.proofs.lemmas.Result.{err_from_is_err_and}
 use Rattle.in_rounds.specs.Showing.{rounds_of}
 use Rattle.in_rounds.proofs.instant.Goals as goal
 
 pub store-requires : goal.store-requires
 store-requires c = (c.show.ensures.accepted c.in_ok-shown.was).settled
-
-pub returns-in_err-shown : goal.returns-in_err-shown
-returns-in_err-shown c =
-    let p = err_from_is_err_and c.from_residual.result c.from_residual.ensures.1 in
-    let shown = c.show.ensures in
-    let e = c.in_err-shown.was in
-    rw (p.1, p.2)
-    (record { answers = ap rounds_of (sym e) ∙ shown.shows.answers; stores = shown.refused e; writes = shown.shows.writes })
 
 pub returns : goal.returns
 returns c =

@@ -18,9 +18,6 @@ added within left none = true≢false (sym (within.only none) ∙ left)
 pub gather-requires : goal.gather-requires
 gather-requires c = (c.requires.0.running.few, omega arith, zero-at 64)
 
-pub first-due-requires : goal.first-due-requires
-first-due-requires c = c.requires.0.running.few
-
 pub loop-readers-init : goal.loop-readers-init
 loop-readers-init c =
     let room = c.requires.1 in

@@ -1,5 +1,4 @@
 -- `round` meets its contract. The loop's invariant: the wires that are not left have their new values, and the words still hold the old ones.
-use native.Mathlib.Omega.{arith}
 use Rattle.rounds.proofs.Rounding.{begun, placed, further, round-done}
 use Rattle.rounds.proofs.round.Goals as goal
 
@@ -8,19 +7,10 @@ loop-w-init c =
     λ b. rw (c.into_iter-w-iterator.ensures.into_iter_gives, c.rev-w-items.ensures.source, c.into_iter.ensures.into_iter_gives)
     (begun b c.minus.ensures)
 
-pub bounds-instant-w : goal.bounds-instant-w
-bounds-instant-w c = ((c.loop-w.invariant c.requires).ahead _ c.in-Some.ensures.steps.present).0
-
 pub value_of_wire-worth-requires : goal.value_of_wire-worth-requires
 value_of_wire-worth-requires c =
     let m = c.loop-w.invariant c.requires in
     placed c.requires m (m.ahead _ c.in-Some.ensures.steps.present).0 c.place_of-here.ensures
-
-pub put_value-grown-requires : goal.put_value-grown-requires
-put_value-grown-requires c =
-    let m = c.loop-w.invariant c.requires in
-    let taken = c.in-Some.ensures.steps in
-    (taken.below, omega (arith, (m.ahead _ taken.present).0, m.holds.room))
 
 pub loop-w-preserved : goal.loop-w-preserved
 loop-w-preserved c =

@@ -6,9 +6,6 @@ use Rattle.pass.proofs.pass.Goals as goal
 pub loop-wire-init : goal.loop-wire-init
 loop-wire-init c = λ a. unpassed a c.none-known.ensures
 
-pub place_of-here-requires : goal.place_of-here-requires
-place_of-here-requires c = omega (arith, c.requires.running.few, c.requires.wires c.loop-wire.wire-index c.loop-wire-test.true)
-
 pub value_of_wire-worth-requires : goal.value_of_wire-worth-requires
 value_of_wire-worth-requires c =
     let a = c.requires in

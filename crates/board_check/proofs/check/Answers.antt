@@ -1,33 +1,8 @@
 -- `check` meets its contract: the answer of the walk over the sheets, then of the tests of the whole memory and rows.
 use mathlib.Core.Path.{sym}
-use native.Mathlib.Omega.{arith}
 use Rattle.std.proofs.lemmas.Result.{err_from_is_err_and}
-use lib.ListN.{length-take}
 use Rattle.board_check.proofs.Finding.{walk_refused, walk_through, finds-refusal, all_formed, finds_unfit, finds-all}
 use Rattle.board_check.proofs.check.Goals as goal
-
--- where the walk has passed, it went through all sheets
-pub slice_bounds-types-end : goal.slice_bounds-types-end
-slice_bounds-types-end c =
-    let p = walk_through c.in_ok-walked.ensures in
-    omega (arith, p.fits.inputs, p.collected.types-sized)
-
-pub slice_bounds-types-end-2 : goal.slice_bounds-types-end-2
-slice_bounds-types-end-2 c =
-    let p = walk_through c.in_ok-walked.ensures in
-    simp length-take (omega (arith, p.fits.inputs, p.collected.types-sized))
-
-pub slice_bounds-check_buffers-end : goal.slice_bounds-check_buffers-end
-slice_bounds-check_buffers-end c = sym (walk_through c.in_ok-walked.ensures).collected.forms_sized
-
-pub check_buffers-requires : goal.check_buffers-requires
-check_buffers-requires c =
-    let p = walk_through c.in_ok-walked.ensures in
-    let f = p.fits in
-    record {
-      cells_bound = (f.cells, omega (arith, f.cells, p.collected.forms_sized));
-      types_len_bound = (simp length-take (omega (arith, f.inputs)), f.outputs);
-    }
 
 pub returns-in_err-walked : goal.returns-in_err-walked
 returns-in_err-walked c =

@@ -20,9 +20,6 @@ due_marks-marks-requires c = (frame-passed _ _ (answered_result _ c.in_ok-count.
 pub first_due-sheet-requires : goal.first_due-sheet-requires
 first_due-sheet-requires c = let p = frame-passed _ _ (answered_result _ c.in_ok-count.ensures) in (p.least, p.most)
 
-pub check-requires : goal.check-requires
-check-requires c = answered_result _ c.in_ok-count.ensures
-
 pub returns-in_err-span : goal.returns-in_err-span
 returns-in_err-span c =
     let p = err_from_is_err_and c.from_residual-in_err-span.result c.from_residual-in_err-span.ensures.1 in

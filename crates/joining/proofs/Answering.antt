@@ -14,14 +14,13 @@ use Rattle.sheet.specs.Laws.Lists.{never}
 use Rattle.sheet.specs.declared.Refused.{Refused}
 use Rattle.sheet.specs.declared.Refusal.TheVariants.{OutputLength, JoinedLimit}
 use Rattle.join.specs.Bytes.{joined_bytes}
-use Rattle.join.specs.Calls.{is_above, passed_with, refused_both, join_answer, join_call, Leaves}
+use Rattle.join.specs.Calls.{is_above, refused_both, join_answer, join_call, Leaves}
 use Rattle.join.proofs.Laws.Bytes.{joined_length}
 use Rattle.join.specs.declared.NotJoined.TheVariants.{First, Second}
 use Rattle.joining.specs.Counting.{Passes, Few}
 use Rattle.joining.specs.Writing.{Joinable}
 use Rattle.joining.proofs.Cutting.{found-by}
 use Rattle.sheet.specs.declared.Counts.{Counts}
-use Rattle.sheet.specs.Outcomes.{refused_at}
 
 -- an error that `map_err` made is made of one
 pub made-of : {T E F : Type 0} (f : E → F) {x : F} (r : Result T E)

@@ -2,12 +2,9 @@
 use Prim.Native.Nat.{◌+◌}
 use native.Mathlib.Omega.{arith}
 use lib.ListN.{length-map}
-use Rattle.joining.proofs.Putting.{none-put, one-put, all-put}
+use Rattle.joining.proofs.Putting.{one-put}
 use Rattle.joining.proofs.Raising.{stays-byte, raised_at}
 use Rattle.joining.proofs.writing.put_raised.Goals as goal
-
-pub loop-i-init : goal.loop-i-init
-loop-i-init c = none-put _ _ _
 
 pub overflow_add-joined : goal.overflow_add-joined
 overflow_add-joined c =
@@ -21,8 +18,3 @@ loop-i-preserved c =
     let at = c.loop-i in
     let sized = length-map bytes (λ b. raise + b) in
     one-put _ _ _ at.i _ at.invariant (omega (arith, c.requires.0)) (omega arith) (raised_at raise bytes at.i c.loop-i-test.true)
-
-pub returns-clause-puts : goal.returns-clause-puts
-returns-clause-puts c =
-    let sized = length-map c.args.bytes.now (λ b. c.args.raise + b) in
-    all-put _ _ _ c.loop-i.i c.loop-i.invariant (omega arith)

@@ -1,9 +1,6 @@
 -- `put_shifted` meets its contract. The loop's invariant: the bytes passed are put, shifted, and the others are still to be.
-use Rattle.joining.proofs.Shifting.{first-turn, last_turn, kind-here, kind-turn, body-stays, body-turn}
+use Rattle.joining.proofs.Shifting.{last_turn, kind-here, kind-turn, body-stays, body-turn}
 use Rattle.joining.proofs.writing.put_shifted.Goals as goal
-
-pub loop-i-init : goal.loop-i-init
-loop-i-init c = first-turn _ _ _ _ _ c.requires.1
 
 pub of-kind-requires : goal.of-kind-requires
 of-kind-requires c = kind-here _ _ _ _ _ c.loop-i.invariant c.loop-i-test.true c.if-left-eq0.true
@@ -25,9 +22,6 @@ loop-i-preserved c =
       | goal.else-left-eq0 w ↦ rw (w.joined-is, w.left-is, w.raise-is)
           (body-turn _ _ _ _ _ at.invariant inside w.if-left-eq0.false (c.type_inv.bytes at.i).fits c.requires.0)
     ]
-
-pub shape_of-joined : goal.shape_of-joined
-shape_of-joined c = c.loop-i.invariant.put.same_length
 
 pub returns : goal.returns
 returns c = last_turn _ _ _ _ _ _ c.loop-i.invariant c.loop-i-test.false

@@ -1,7 +1,6 @@
 -- `probe_schedule` meets its contract: the maker's answer, packed, and its list. Assumes nothing.
-use mathlib.Core.Path.{sym, ap, ◌∙◌}
+use mathlib.Core.Path.{sym, ◌∙◌}
 use native.Mathlib.Omega.{arith}
-use Rattle.maker.specs.Making.{packed_made}
 use Rattle.maker.proofs.Laws.Calls.{depth-bounded, maker_bounded}
 use Rattle.probe.proofs.probe_schedule.Goals as goal
 
@@ -14,17 +13,3 @@ pub overflow_cast-result : goal.overflow_cast-result
 overflow_cast-result c =
     let within = depth-bounded _ _ (sym c.make.ensures.value ∙ c.in-Ok.is) in
     omega arith
-
-pub returns-in-Err : goal.returns-in-Err
-returns-in-Err c = let ensured = c.make.ensures in
-    record {
-      value = c.packed.ensures ∙ ap packed_made (sym c.in-Err.is ∙ ensured.value);
-      list_after = ensured.list_after;
-    }
-
-pub returns-in-Ok : goal.returns-in-Ok
-returns-in-Ok c = let ensured = c.make.ensures in
-    record {
-      value = ap packed_made (sym c.in-Ok.is ∙ ensured.value);
-      list_after = ensured.list_after;
-    }

@@ -7,7 +7,6 @@ ghost use Rattle.sheet.specs.Sheets.{check_of, packed_checked};
 ghost use Rattle.sheet.specs.Memory.{start_call, packed_started};
 ghost use Rattle.kernel.specs.Calls.{rounds_call, scheduled_call, packed_rounds, packed_scheduled};
 
-
 // The check: the cells, or a refusal.
 #[unsafe(no_mangle)]
 pub extern "C" fn nuthatchbed_check(sheet: &[u8]) -> u32

@@ -1,7 +1,6 @@
 -- `nuthatchbed_check` meets its contract: the check's answer, packed. Assumes nothing.
-use mathlib.Core.Path.{sym, ap, ◌∙◌}
+use mathlib.Core.Path.{sym}
 use native.Mathlib.Omega.{arith}
-use Rattle.sheet.specs.Sheets.{packed_checked}
 use Rattle.sheet.proofs.Laws.Checked.{check_passed}
 use Rattle.sheet.specs.Laws.Refusals.{check_refusals}
 use Rattle.nuthatchbed.proofs.nuthatchbed_check.Goals as goal
@@ -14,11 +13,3 @@ pub overflow_cast-result : goal.overflow_cast-result
 overflow_cast-result c =
     let few = (check_passed _ c.in-Ok.counts (sym c.in-Ok.ensures)).few-cells in
     record { fits = omega arith }
-
-pub returns-in-Err : goal.returns-in-Err
-returns-in-Err c =
-    c.packed.ensures
-    ∙ ap packed_checked (c.in-Err.ensures)
-
-pub returns-in-Ok : goal.returns-in-Ok
-returns-in-Ok c = ap packed_checked (c.in-Ok.ensures)

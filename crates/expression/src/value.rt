@@ -42,7 +42,6 @@ fn value_unary(basis: &Basis, level: usize, here: Place, fresh: bool) -> Option<
     requires bound { (4 ≤ kind_at basis.now here) × (kind_at basis.now here < 6) }
     ensures { YieldsAt basis.now level here fresh result }
 {
-    let kind = Kind::of(basis.sheet[here.at]);
     let below = level - 1;
     let first = Place {
         at: here.at + 1,
@@ -50,7 +49,7 @@ fn value_unary(basis: &Basis, level: usize, here: Place, fresh: bool) -> Option<
     };
     let operand = value_expression(basis, below, first, fresh)?;
     Some(Valued {
-        word: operations::unary(kind, operand.word),
+        word: operations::unary(basis.sheet[here.at], operand.word),
         end: operand.end,
     })
 }
@@ -62,7 +61,6 @@ fn value_binary(basis: &Basis, level: usize, here: Place, fresh: bool) -> Option
     requires bound { (6 ≤ kind_at basis.now here) × (kind_at basis.now here < 12) }
     ensures { YieldsAt basis.now level here fresh result }
 {
-    let kind = Kind::of(basis.sheet[here.at]);
     let below = level - 1;
     let first = Place {
         at: here.at + 1,
@@ -71,7 +69,7 @@ fn value_binary(basis: &Basis, level: usize, here: Place, fresh: bool) -> Option
     let left = value_expression(basis, below, first, fresh)?;
     let right = value_expression(basis, below, left.end, fresh)?;
     Some(Valued {
-        word: operations::binary(kind, left.word, right.word),
+        word: operations::binary(basis.sheet[here.at], left.word, right.word),
         end: right.end,
     })
 }

@@ -7,7 +7,7 @@ ghost use Rattle.std.specs.Prelude.{◌≡◌, ◌≤◌, ◌<◌, length};
 use board::{Standing, Ticked};
 use sheet::Refused;
 use std::io;
-use text::{put_bytes, Text};
+use text::{Text, put_bytes};
 
 // A row for each tick: due marks and restart marks, 1 for the tariff, 2 for the relay and 4 for the display, and then all inputs
 // in board order: pulse, night; contact, opened, service; button.

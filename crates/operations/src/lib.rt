@@ -3,7 +3,6 @@
 #![tactic(auto)]
 
 ghost use Rattle.std.specs.Prelude.{◌≡◌, cond};
-ghost use Rattle.sheet.specs.KindBytes.{byte_of};
 ghost use Rattle.kernel.specs.Operations.{unary_of, binary_of};
 ghost use Rattle.operations.specs.Words.{unary_word, binary_word};
 
@@ -11,27 +10,27 @@ use sheet::data;
 use sheet::kinds::Kind;
 
 // Not, and negate, as which every other kind counts.
-pub fn unary(kind: Kind, v: u32) -> u32
-    ensures { result ≡ unary_word (unary_of (byte_of kind)) v }
+pub fn unary(kind: u8, v: u32) -> u32
+    ensures { result ≡ unary_word (unary_of kind) v }
 {
-    match kind {
-        Kind::Not => data::word_of_bool(v != 1),
+    match Kind::try_from(kind) {
+        Ok(Kind::Not) => data::word_of_bool(v != 1),
         _ => numbers::to_bits(numbers::negate(numbers::of_bits(v))),
     }
 }
 
 // And, or, add, subtract and less, and equal, as which every other kind counts.
-pub fn binary(kind: Kind, v: u32, w: u32) -> u32
-    ensures { result ≡ binary_word (binary_of (byte_of kind)) v w }
+pub fn binary(kind: u8, v: u32, w: u32) -> u32
+    ensures { result ≡ binary_word (binary_of kind) v w }
 {
     let m = numbers::of_bits(v);
     let n = numbers::of_bits(w);
-    match kind {
-        Kind::And => data::word_of_bool((v == 1) & (w == 1)),
-        Kind::Or => data::word_of_bool((v == 1) | (w == 1)),
-        Kind::Add => numbers::to_bits(numbers::add(m, n)),
-        Kind::Subtract => numbers::to_bits(numbers::subtract(m, n)),
-        Kind::Less => data::word_of_bool(numbers::less(m, n)),
+    match Kind::try_from(kind) {
+        Ok(Kind::And) => data::word_of_bool((v == 1) & (w == 1)),
+        Ok(Kind::Or) => data::word_of_bool((v == 1) | (w == 1)),
+        Ok(Kind::Add) => numbers::to_bits(numbers::add(m, n)),
+        Ok(Kind::Subtract) => numbers::to_bits(numbers::subtract(m, n)),
+        Ok(Kind::Less) => data::word_of_bool(numbers::less(m, n)),
         _ => data::word_of_bool(numbers::equal(m, n)),
     }
 }

@@ -61,7 +61,7 @@ fn advance_unary(
     };
     let operand = advance_expression(fixed, memory, below, type_asked, first, fresh);
     Valued {
-        word: operations::unary(kind, operand.word),
+        word: operations::unary(fixed.sheet[here.at], operand.word),
         end: operand.end,
     }
 }
@@ -90,7 +90,7 @@ fn advance_binary(
     let left = advance_expression(fixed, memory, below, type_asked, first, fresh);
     let right = advance_expression(fixed, memory, below, type_asked, left.end, fresh);
     Valued {
-        word: operations::binary(kind, left.word, right.word),
+        word: operations::binary(fixed.sheet[here.at], left.word, right.word),
         end: right.end,
     }
 }

@@ -306,7 +306,7 @@ value_binary-returns-in_err-left t c =
 
 pub value_unary-returns : goal.value_unary-returns
 value_unary-returns t c =
-    λ t p. unary-answer p c.args.fresh c.value_expression.ensures c.in_ok-operand.was c.requires.bound.0 c.requires.bound.1 (rw c.of-kind.ensures at c.unary.ensures)
+    λ t p. unary-answer p c.args.fresh c.value_expression.ensures c.in_ok-operand.was c.requires.bound.0 c.requires.bound.1 c.unary.ensures
 
 pub value_binary-value_expression-requires-2 : goal.value_binary-value_expression-requires-2
 value_binary-value_expression-requires-2 t c =
@@ -324,7 +324,7 @@ value_binary-returns-in_err-right t c =
 pub value_binary-returns : goal.value_binary-returns
 value_binary-returns t c =
     λ t p. binary-answer p c.args.fresh c.value_expression.ensures c.in_ok-left.was c.requires.bound.0 c.requires.bound.1
-    c.value_expression-2.ensures c.in_ok-right.was (rw c.of-kind.ensures at c.binary.ensures)
+    c.value_expression-2.ensures c.in_ok-right.was c.binary.ensures
 
 pub value_by_kind-of-requires : goal.value_by_kind-of-requires
 value_by_kind-of-requires t c = (opened c.requires.1).good.kind

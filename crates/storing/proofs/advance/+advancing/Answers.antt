@@ -259,7 +259,7 @@ advance_unary-advance_expression-operand-requires t c =
 pub advance_unary-returns : goal.advance_unary-returns
 advance_unary-returns t c =
     λ p. unary_advances p c.args.fresh _ (rw c.of-kind.ensures at (c.operation_type-type_asked.ensures c.args.asked))
-    c.requires.bound.0 c.requires.bound.1 c.advance_expression-operand.ensures (rw c.of-kind.ensures at c.unary.ensures)
+    c.requires.bound.0 c.requires.bound.1 c.advance_expression-operand.ensures c.unary.ensures
 
 pub advance_binary-overflow_sub-below : goal.advance_binary-overflow_sub-below
 advance_binary-overflow_sub-below t c = (opened c.requires.ready.place).level-left
@@ -281,7 +281,7 @@ pub advance_binary-returns : goal.advance_binary-returns
 advance_binary-returns t c =
     λ p. binary_advances p c.args.fresh _ (rw c.of-kind.ensures at (c.operation_type-type_asked.ensures c.args.asked))
     c.requires.bound.0 c.requires.bound.1 c.advance_expression-left.ensures c.advance_expression-right.ensures
-    (rw c.of-kind.ensures at c.binary.ensures)
+    c.binary.ensures
 
 pub advance_by_kind-of-requires : goal.advance_by_kind-of-requires
 advance_by_kind-of-requires t c = (opened c.requires.place).good.kind

@@ -5,7 +5,7 @@ use Rattle.std.proofs.Common.{sym, ap, subst, ◌∙◌, arith, inr, ⊎_elim, g
 use Rattle.std.proofs.Math.Bool.{true, false, or-true, or-false}
 use Rattle.std.proofs.Math.Logic.{inl}
 use borrow.Author.Tests.{eqb-true, eqb-false, eq-eqb, ne_eqb, not-true}
-use Rattle.wires.specs.Sets.{member, LowestTaken}
+use Rattle.wires.specs.Sets.{member, LowestPresent, LowestTaken}
 use Rattle.sheet.specs.Lists.{among, all_among}
 use Rattle.sheet.specs.Outcomes.{lowest}
 use Rattle.sheet.specs.Laws.Lists.{never, both, either, neither, among-append, each-among, among-each}
@@ -158,8 +158,15 @@ module _ (reads_of : ℕ → List ℕ) (n : ℕ) where
             (λ (a : Awaits reads_of n list waiting x). misses x a.wire a.new a.read all))
             (q.each x (record { is_wire = l; new = not-true (among x list) new })))
 
-    pub lowest_in_queue : n ≤ 64 → {r others : ℕ} → LowestTaken bits r others → (r < n) × (r ≡ lowest (ready reads_of list) n)
-    lowest_in_queue few {r} took =
+    pub lowest_in_queue : n ≤ 64 → {r : ℕ} → LowestPresent (member bits) 64 r → r < 64
+        → (r < n) × (r ≡ lowest (ready reads_of list) n)
+    lowest_in_queue few {r} low inside =
+        let (l, is) = in_queue r (low.present inside) in
+        (l, lowest-is (ready reads_of list) n r (omega arith) (λ _. is) (λ j m. not_in_queue j (omega arith) (low.below j m)))
+
+    -- and where it is taken out of the set
+    pub taken_in_queue : n ≤ 64 → {r others : ℕ} → LowestTaken bits r others → (r < n) × (r ≡ lowest (ready reads_of list) n)
+    taken_in_queue few {r} took =
         let (l, is) = in_queue r took.present in
         (l, lowest-is (ready reads_of list) n r (omega arith) (λ _. is) (λ j m. not_in_queue j (omega arith) (took.lower j m)))
 

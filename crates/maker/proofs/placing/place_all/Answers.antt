@@ -8,7 +8,7 @@ use native.Mathlib.Omega.{arith}
 use lib.ListN.{length, length-set, length-replicate}
 use Rattle.sheet_expressions.specs.Sets.{holds_more}
 use Rattle.maker.specs.Making.{placed_by}
-use Rattle.maker.proofs.Laws.Queue.{in_queue, lowest_in_queue, queue_empty, placed-next}
+use Rattle.maker.proofs.Laws.Queue.{in_queue, taken_in_queue, queue_empty, placed-next}
 use Rattle.maker.proofs.Noting.{nothing-noted, one-noted}
 use Rattle.maker.proofs.Steps.{nobody-waits, first-turn, next-turn, last_turn, ready-parts}
 use Rattle.maker.proofs.placing.place_all.Goals as goal
@@ -54,7 +54,7 @@ loop-p-preserved c =
       λ reads_of held.
           let wires = c.args.wires in
           let turn = at.invariant.4 reads_of held in
-          let found = lowest_in_queue reads_of wires turn.queue c.requires.0 took in
+          let found = taken_in_queue reads_of wires turn.queue c.requires.0 took in
           let holds = holds_more wire turn.holds c.with-placed.ensures in
           let left = placed-next reads_of wires turn.queue wire took.present c.without-others.ensures in
           let list = placed_by reads_of wires at.p ++ (wire ∷ []) in

@@ -80,8 +80,10 @@ fn check_sheets(
         from: here,
         to: here,
     };
+    // One map is drawn over for each sheet: to empty one for each takes a seventh of the tick of the smallest sheets.
+    let mut map = Map::empty();
     for k in 0..sheets {
-        let next = check_sheet(board, here, forms, types)?;
+        let next = check_sheet(board, here, &mut map, forms, types)?;
         if k == wanted {
             span = Span {
                 from: here,
@@ -94,10 +96,11 @@ fn check_sheets(
 }
 
 // 1 to 11 of the sheet that begins here, its place counted in the board. Where they pass, the entries of its cells and the types of its
-// inputs are put behind the others, and the answer is where the next sheet begins.
+// inputs are put behind the others, and the answer is where the next sheet begins. The map is room to draw in.
 fn check_sheet(
     board: &[u8],
     here: Begin,
+    map: &mut Map,
     forms: &mut [u16; 512],
     types: &mut [u8; 128],
 ) -> Result<Begin, Refused>
@@ -111,8 +114,7 @@ fn check_sheet(
     let begin = at + 2;
     let end = begin + board_frame::length_at(board, at);
     let sheet = &board[begin..end];
-    let mut map = Map::empty();
-    match sheet_check::check_map(sheet, &mut map) {
+    match sheet_check::check_map(sheet, map) {
         Err(refused) => {
             let counted = begin + refused.place;
             Err(refused.why.at(counted))
@@ -138,10 +140,12 @@ fn further(here: Begin, at: usize, counts: Counts) -> Begin
     }
 }
 
-// Puts what a sheet has of one sort behind what the `others` before it have.
+// Puts what a sheet has of one sort behind what the `others` before it have. Where it has none there is no call to copy nothing.
 fn put_behind<T: Copy>(list: &mut [T], others: usize, more: &[T])
     requires { others + length more.now ≤ length list.old }
     ensures { list.new ≡ paste list.old others more.now (length more.now) }
 {
-    list[others..others + more.len()].copy_from_slice(more);
+    if more.len() > 0 {
+        list[others..others + more.len()].copy_from_slice(more);
+    }
 }

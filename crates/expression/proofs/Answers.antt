@@ -4,7 +4,8 @@ use native.Mathlib.Omega.{arith}
 use mathlib.Core.Path.{◌≡◌, refl, subst, ◌∙◌}
 use mathlib.Core.Bool.{Bool, true, false, ◌||◌, cond}
 use mathlib.Core.List.{List}
-use Rattle.std.specs.Prelude.{Option, Some, None}
+use Rattle.std.specs.Prelude.{Option, Some, None, Result, Ok, Err}
+use Rattle.std.specs.Result.{result_ok}
 use lib.Dec.{eqb, ltb}
 use lib.ListN.{get_or}
 use borrow.Author.Tests.{ne_eqb, ltb-true, ltb-false}
@@ -40,13 +41,15 @@ module _ {sheet memory words : List ℕ} {bits level asked at cell : ℕ}
       → (5 * (level - 1) + 3 < n) × ((x : ℕ) × Placement sheet memory words bits (level - 1) x a k)
   deeper_by_kind step e o = (omega (arith, e, (opened p).level-left), (_, placed p o))
 
-  pub leaf_yields : kind < 4 → {r : Option Valued} → r ≡ leaf_valued sheet words bits (record { at = at; cell = cell }) → Yields p fresh r
-  leaf_yields below is = rw is (by (known_by bits kind (body_at sheet at)) refl)
+  pub leaf_yields : kind < 4 → {r : Result Valued Valued} → r ≡ leaf_valued sheet words bits (record { at = at; cell = cell })
+      → {given : Option Valued} → given ≡ result_ok r → Yields p fresh given
+  leaf_yields below is ends = rw ends (rw is (by (known_by bits kind (body_at sheet at)) refl))
     where
       here : Place
       here = record { at = at; cell = cell }
 
-      by : (b : Bool) → known_by bits kind (body_at sheet at) ≡ b → Yields p fresh (cond b (Some (leaf_known sheet words here)) None)
+      by : (b : Bool) → known_by bits kind (body_at sheet at) ≡ b
+          → Yields p fresh (result_ok (cond b (Ok (leaf_known sheet words here)) (Err (leaf_known sheet words here))))
       by true e = known (leaf-gives p fresh below e)
       by false e = unknown (leaf-value p fresh below ∙ rw e)
 

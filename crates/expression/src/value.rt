@@ -11,13 +11,15 @@ use sheet::memory;
 use sheet_walk::{Place, skip, skip_if};
 
 // The value of the expression that stands here. One without operands is valued without a call of its own: these are half of all.
+// It is folded into each caller: as a function of its own it hands a value back through memory, and a sheet of ifs takes 1.4 times as long.
 #[cycle(valuing)]
+#[inline(always)]
 pub fn value_expression(basis: &Basis, level: usize, here: Place, fresh: bool) -> Option<Valued>
     requires { Placed basis.now level here }
     ensures { YieldsAt basis.now level here fresh result }
 {
     if Kind::of(basis.sheet[here.at]).is_leaf() {
-        return leaf::value_leaf(basis.sheet, basis.known, basis.words, here);
+        return leaf::value_leaf(basis.sheet, basis.known, basis.words, here).ok();
     }
     value_by_kind(basis, level, here, fresh)
 }
@@ -29,7 +31,7 @@ pub(crate) fn value_whole(basis: &Basis, here: Place) -> Option<Valued>
     ensures { YieldsAt basis.now 16 here false result }
 {
     if Kind::of(basis.sheet[here.at]).is_leaf() {
-        return leaf::value_leaf(basis.sheet, basis.known, basis.words, here);
+        return leaf::value_leaf(basis.sheet, basis.known, basis.words, here).ok();
     }
     let lent = *basis;
     value_by_kind(&lent, 16, here, false)
@@ -215,7 +217,7 @@ fn value_by_kind(basis: &Basis, level: usize, here: Place, fresh: bool) -> Optio
 {
     match Kind::of(basis.sheet[here.at]) {
         Kind::BooleanConstant | Kind::NumberConstant | Kind::Wire | Kind::Input => {
-            leaf::value_leaf(basis.sheet, basis.known, basis.words, here)
+            leaf::value_leaf(basis.sheet, basis.known, basis.words, here).ok()
         }
         Kind::Conditional => value_conditional(basis, level, here, fresh),
         Kind::Present => value_present(basis, level, here, fresh),

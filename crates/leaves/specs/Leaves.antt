@@ -1,5 +1,5 @@
 -- What a leaf stands for, a constant, a wire or an input: whether its value is known, and its word; and the word of kind 18.
-use Rattle.std.specs.Prelude.{ℕ, ◌+◌, ◌<◌, ◌≡◌, Bool, true, cond, List, Option, Some, None, eqb, get_or}
+use Rattle.std.specs.Prelude.{ℕ, ◌+◌, ◌<◌, ◌≡◌, Bool, true, cond, List, Result, Ok, Err, eqb, get_or}
 use Rattle.wires.specs.Sets.{member}
 use Rattle.sheet.specs.Kinds.{body_of}
 use Rattle.sheet.specs.Readings.{body_at, Whole}
@@ -39,8 +39,9 @@ module _ (sheet words : List ℕ) where
     end = record { at = here.at + 1 + body_of (get_or sheet here.at 0); cell = here.cell };
   }
 
-  abbrev pub leaf_valued : (bits : ℕ) → Place → Option Valued
-  leaf_valued bits here = cond (known_by bits (get_or sheet here.at 0) (body_at sheet here.at)) (Some (leaf_known here)) None
+  abbrev pub leaf_valued : (bits : ℕ) → Place → Result Valued Valued
+  leaf_valued bits here =
+      cond (known_by bits (get_or sheet here.at 0) (body_at sheet here.at)) (Ok (leaf_known here)) (Err (leaf_known here))
 
   -- the word of the cell of the kept wire that kind 18 names, which is always known
   abbrev pub last_word : ℕ → ℕ

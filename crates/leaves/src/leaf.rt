@@ -62,14 +62,21 @@ pub fn known_leaf(sheet: &[u8], words: &[u32; 144], here: Place) -> Valued
     }
 }
 
-// The value, if it is known.
-pub fn value_leaf(sheet: &[u8], known: Wires, words: &[u32; 144], here: Place) -> Option<Valued>
+// The value: `Ok` where it is known, and where it is not `Err`, with the same end and the word that stands there. Each arm makes its own, so that
+// a caller who has no use for the second pays nothing for it; for the same reason it is folded into each caller.
+#[inline(always)]
+pub fn value_leaf(
+    sheet: &[u8],
+    known: Wires,
+    words: &[u32; 144],
+    here: Place,
+) -> Result<Valued, Valued>
     requires { Leaf sheet.now here.at }
     ensures { result ≡ leaf_valued sheet.now words.now known.bits here }
 {
     if is_known(known, Kind::of(sheet[here.at]), sheet[here.at + 1]) {
-        Some(known_leaf(sheet, words, here))
+        Ok(known_leaf(sheet, words, here))
     } else {
-        None
+        Err(known_leaf(sheet, words, here))
     }
 }

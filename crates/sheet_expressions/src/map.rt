@@ -3,7 +3,7 @@ ghost use Rattle.std.specs.Prelude.{◌≡◌, ◌<◌, get_or, replicate};
 
 // Of each wire where its expression starts, the number of its first cell and the set of the wires that it reads within the instant; and
 // of each cell where its owner stands, and its form. What it holds beyond the wires and the cells of its sheet is free.
-#[derive(Drop)]
+#[derive(Clone, Copy)]
 pub struct Map {
     pub places: [u16; 64],
     pub firsts: [u8; 64],

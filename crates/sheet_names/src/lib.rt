@@ -13,7 +13,7 @@ use wires::Wires;
 // What the expressions of a sheet may name. Two tables are looked up by the kind of a leaf, 0 to 3: the sets of the names that stand for a
 // number, and what the names stay below. A constant names itself: of the Booleans there are two, and a number begins with any byte. Then
 // the set of the kept wires, and how many of them are ahead.
-#[derive(Drop)]
+#[derive(Clone, Copy)]
 pub struct Names {
     pub numbers: [u64; 4],
     pub limits: [u64; 4],

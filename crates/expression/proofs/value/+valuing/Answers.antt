@@ -218,13 +218,13 @@ value_by_kind-value_leaf-requires t c = leaf-of c.requires.1 (rw (← c.of.ensur
 
 pub value_by_kind-returns-in-BooleanConstant : goal.value_by_kind-returns-in-BooleanConstant
 value_by_kind-returns-in-BooleanConstant t c =
-    λ t p. leaf_yields p c.args.fresh (rw (← c.of.ensures) (leaf-few c.in-BooleanConstant.is)) c.value_leaf.ensures
+    λ t p. leaf_yields p c.args.fresh (rw (← c.of.ensures) (leaf-few c.in-BooleanConstant.is)) c.value_leaf.ensures c.ok.ensures.value
 
 pub value_expression-value_leaf-requires : goal.value_expression-value_leaf-requires
 value_expression-value_leaf-requires t c = leaf-of c.requires.1 (rw (← c.of.ensures) (ltb-true _ _ (sym c.is_leaf.ensures ∙ c.if-is_leaf.true)))
 
 pub value_expression-returns-then-is_leaf : goal.value_expression-returns-then-is_leaf
-value_expression-returns-then-is_leaf t c = λ t p. leaf_yields p c.args.fresh (rw (← c.of.ensures) (ltb-true _ _ (sym c.is_leaf.ensures ∙ c.if-is_leaf.true))) c.value_leaf.ensures
+value_expression-returns-then-is_leaf t c = λ t p. leaf_yields p c.args.fresh (rw (← c.of.ensures) (ltb-true _ _ (sym c.is_leaf.ensures ∙ c.if-is_leaf.true))) c.value_leaf.ensures c.ok.ensures.value
 
 pub value_fby-is_seen-requires : goal.value_fby-is_seen-requires
 value_fby-is_seen-requires t c =

@@ -16,4 +16,4 @@ value_leaf-requires c = leaf-of c.requires.1 (rw (← c.of.ensures) (ltb-true _ 
 
 pub returns-then-is_leaf : goal.returns-then-is_leaf
 returns-then-is_leaf c = λ t p.
-    leaf_yields p false (rw (← c.of.ensures) (ltb-true _ _ (sym c.is_leaf.ensures ∙ c.if-is_leaf.true))) c.value_leaf.ensures
+    leaf_yields p false (rw (← c.of.ensures) (ltb-true _ _ (sym c.is_leaf.ensures ∙ c.if-is_leaf.true))) c.value_leaf.ensures c.ok.ensures.value
